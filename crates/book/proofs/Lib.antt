@@ -1,0 +1,8 @@
+-- The laws that the proofs of this crate and the layers above cite.
+pub mod Fields
+pub mod Products
+pub mod Next
+pub mod Places
+pub mod Soundness
+pub mod Steps
+pub mod Tests
