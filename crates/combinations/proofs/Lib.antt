@@ -1,0 +1,4 @@
+-- The laws, for the layers above. Assumes nothing.
+pub mod Books
+pub mod Greatest
+pub mod Surplus

@@ -1,0 +1,4 @@
+-- The definitions that weighing and judging speak in. Assumes nothing.
+pub mod Combinations
+pub mod Greatest
+pub mod Surplus

@@ -1,0 +1,16 @@
+-- A market of which only some clients are kept, and a list of which only their bids are kept. proofs/Restrict.antt and proofs/Kept.antt
+-- hold the laws. Assumes nothing: these are definitions.
+use mathlib.Core.Bool.{Bool, cond, _&&_}
+use mathlib.Core.List.{List, [], _∷_}
+use Prim.Native.Nat.{ℕ}
+use Rattle.market.specs.Market.{Market}
+
+-- the same market, of which only bids of clients that are kept may be taken
+abbrev pub only : (keep : ℕ → Bool) → Market → Market
+only keep m =
+    record { bids = m .bids; owner = m .owner; hours = m .hours; may = λ i. m .may i && keep (m .owner i) }
+
+-- of a list, the bids of clients that are kept
+unfoldable pub kept : Market → (keep : ℕ → Bool) → List ℕ → List ℕ
+kept m keep [] = []
+kept m keep (i ∷ is) = let rest = kept m keep is in cond (keep (m .owner i)) (i ∷ rest) rest

@@ -1,0 +1,4 @@
+-- The laws of sums and of sets, for the crates that add up over winners and over sets of them.
+pub mod Sums
+pub mod Members
+pub mod Sets

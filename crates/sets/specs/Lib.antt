@@ -1,0 +1,3 @@
+-- Sums over an index, and sets written as numbers.
+pub mod Sums
+pub mod Sets
