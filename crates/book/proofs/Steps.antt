@@ -7,7 +7,9 @@ use Prim.Native.Nat.{ℕ, _+_, _*_}
 use native.Mathlib.Numerals.{add-one}
 use native.Mathlib.Nat.{add-assoc, add-zero}
 use Rattle.book.specs.Lists.{all, all-to, count, total}
-use Rattle.book.specs.Book.{Kind, reserves-of}
+use Rattle.book.specs.Book.{Kind, Bid, reserves-of}
+use Rattle.book.specs.Questions.{bids-of, few-bids}
+use lib.Dec.{leb}
 
 module _ {A : Type 0} (p : A → Bool) where
   pub all-next : (x : A) (xs ys : List A) (ok t now z : Bool) → xs ≡ x ∷ ys → now ≡ (ok && t) → t ≡ p x → (ok && all p xs) ≡ z → (now && all p ys) ≡ z
@@ -29,6 +31,11 @@ module _ {A : Type 0} (p : A → Bool) where
 pub all-to-next : (p : ℕ → Bool) (n : ℕ) (ok t now : Bool) → now ≡ (ok && t) → t ≡ p (n + 1) → ok ≡ all-to n p → now ≡ all-to (n + 1) p
 unfolding all-to
 all-to-next p n ok t now e h q = rw (e, h, q, add-one)
+
+-- a client's count against question 4's limit
+pub few-count : (xs : List Bid) (c n : ℕ) → n ≡ bids-of c xs → leb n 8 ≡ few-bids xs c
+unfolding few-bids
+few-count xs c n e = ap (λ (k : ℕ). leb k 8) e
 
 pub total-next : (x : ℕ) (xs ys : List ℕ) (s t z : ℕ) → xs ≡ x ∷ ys → t ≡ x → s + total xs ≡ z → (s + t) + total ys ≡ z
 unfolding total

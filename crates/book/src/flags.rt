@@ -4,26 +4,26 @@ ghost use mathlib.Core.Bool.{_&&_, cond, not};
 ghost use Prim.Native.Nat.{_≤_};
 ghost use Rattle.book.specs.Lists.{within as within-range};
 
-pub(crate) fn both(a: bool, b: bool) -> bool
+pub fn both(a: bool, b: bool) -> bool
     ensures { λ r. ⌜ r ≡ (a && b) ⌝ }
 {
     if a { b } else { false }
 }
 
-pub(crate) fn within(low: usize, x: usize, high: usize) -> bool
+pub fn within(low: usize, x: usize, high: usize) -> bool
     ensures { λ r. ⌜ r ≡ within-range low x high ⌝ }
 {
     both(low <= x, x <= high)
 }
 
-pub(crate) fn one_if(a: bool) -> usize
+pub fn one_if(a: bool) -> usize
     ensures { λ r. ⌜ (r ≡ cond a 1 0) × (r ≤ 1) ⌝ }
 {
     if a { 1 } else { 0 }
 }
 
 // The number of the first of three questions in a row that is answered no.
-pub(crate) fn first_no(three: bool, four: bool, five: bool) -> u8
+pub fn first_no(three: bool, four: bool, five: bool) -> u8
     ensures { λ r. ⌜ r ≡ cond (not three) 3 (cond (not four) 4 (cond (not five) 5 0)) ⌝ }
 {
     if !three {

@@ -2,3 +2,4 @@
 pub mod Combinations
 pub mod Greatest
 pub mod Surplus
+pub mod Value

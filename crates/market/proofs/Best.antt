@@ -4,7 +4,7 @@ use mathlib.Core.Path.{_≡_, refl, sym, ap, subst}
 use mathlib.Core.Bool.{true}
 use mathlib.Core.List.{List, [], _∷_}
 use mathlib.Core.Logic.{⊎-elim}
-use Prim.Native.Nat.{ℕ, zero, suc, _+_, _≤_}
+use Prim.Native.Nat.{ℕ, zero, suc, _+_, _*_, _≤_}
 use native.Mathlib.Nat.{le-refl, le-trans, le-antisymm, le-of-eq}
 use native.Mathlib.Omega.{arith}
 use lib.ListN.{length}
@@ -62,3 +62,15 @@ module _ (m : Market) (wt : ℕ → ℕ) where
   best-is k c ls v h (is, e, f, w) =
       le-antisymm (le-trans (le-of-eq (sym w)) (best-unbeaten k c ls is f e))
       (let (js, d, g, x) = best-attained k c ls in le-trans (le-of-eq (sym x)) (h js g d))
+
+  -- where no bid weighs more than a, the recursion's value is at most a for each client
+  taken-most : (a : ℕ) → ((i : ℕ) → wt i ≤ a) → (is : List ℕ) → taken wt is ≤ a * length is
+  unfolding taken
+  taken-most a h [] = omega arith
+  taken-most a h (zero ∷ is) = omega (arith, taken-most a h is)
+  taken-most a h (suc i ∷ is) = omega (arith, taken-most a h is, h (suc i))
+
+  pub best-most : (a : ℕ) → ((i : ℕ) → wt i ≤ a) → (k c : ℕ) (ls : List ℕ) → best m wt k c ls ≤ a * k
+  best-most a h k c ls =
+      let (is, e, f, w) = best-attained k c ls in
+      omega (arith, w, taken-most a h is, ap (λ (n : ℕ). a * n) e)

@@ -6,6 +6,7 @@ use mathlib.Core.List.{List}
 use mathlib.Core.Logic.{_⊎_, inl, inr, ⊎-elim}
 use Prim.Native.Nat.{ℕ, zero, suc, _+_, _≤_, _<_, max}
 use native.Mathlib.Nat.{le-refl, le-trans, le-max-left, le-max-right, eq-or-lt-of-le, le-of-suc-le-suc, not-suc-le-zero, le-suc}
+use native.Mathlib.Numerals.{add-one}
 use native.Mathlib.Omega.{arith}
 use lib.Dec.{leb}
 use borrow.Author.Tests.{leb-true, leb-false}
@@ -63,3 +64,13 @@ module _ (m : Market) (wt : ℕ → ℕ) (c : ℕ) (ls : List ℕ) (p : ℕ) (on
       (λ e. inr (n, le-refl (suc n), t, e))
       (max-either (choose m wt n c ls p on) (wt (suc n) + on (less ls (m .hours (suc n))))))
       (λ e. chosen-later n _ (choose-attained n))
+
+  -- one bid more, in a loop's numbers: it is open, or it is not
+  pub choose-open : (n : ℕ) → open-to m c ls (n + 1) ≡ true
+      → choose m wt (n + 1) c ls p on ≡ max (choose m wt n c ls p on) (wt (n + 1) + on (less ls (m .hours (n + 1))))
+  unfolding choose
+  choose-open n t = rw (add-one n) (rw (rw (add-one n) at t))
+
+  pub choose-shut : (n : ℕ) → open-to m c ls (n + 1) ≡ false → choose m wt (n + 1) c ls p on ≡ choose m wt n c ls p on
+  unfolding choose
+  choose-shut n t = rw (add-one n) (rw (rw (add-one n) at t))

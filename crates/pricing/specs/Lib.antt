@@ -2,6 +2,7 @@
 -- abstract; the same for fractions, each with a denominator of its own.
 pub mod Certificate
 pub mod Questions
+pub mod Ranges
 pub mod Auction
 pub mod Fractions
 pub mod Discounts

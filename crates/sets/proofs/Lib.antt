@@ -2,3 +2,4 @@
 pub mod Sums
 pub mod Members
 pub mod Sets
+pub mod Tables

@@ -5,7 +5,7 @@ use book::layout;
 use book::questions;
 
 // The bytes after the first n.
-fn after(s: &[u8], n: usize) -> &[u8] {
+pub(crate) fn after(s: &[u8], n: usize) -> &[u8] {
     if n <= s.len() { &s[n..] } else { &s[0..0] }
 }
 

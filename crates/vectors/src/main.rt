@@ -2,6 +2,7 @@
 // colon, and bytes in hexadecimal (spaces count for nothing). Where an operation takes numbers besides the bytes, they come first, one
 // byte each. For each line the letter, the label, a colon and the answer are printed.
 mod answer;
+mod several;
 mod text;
 
 use libc::STDIN_FILENO;
@@ -19,8 +20,8 @@ fn run_line(lines: &[u8], from: usize) -> usize
     let mut bytes = [0u8; 4096];
     let n = text::unhex(&lines[colon..end], &mut bytes);
     io::write_all(STDOUT_FILENO, &lines[from..colon]);
-    io::write_all(STDOUT_FILENO, b": ");
-    io::print_decimal(STDOUT_FILENO, answer::answer(lines[from], &bytes[..n]));
+    io::write_all(STDOUT_FILENO, b":");
+    several::print(lines[from], &bytes[..n]);
     io::write_all(STDOUT_FILENO, b"\n");
     end + 1
 }

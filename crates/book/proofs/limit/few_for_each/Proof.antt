@@ -1,13 +1,11 @@
 -- `book::limit::few_for_each` meets its contract. The loop keeps the answer for the clients passed. Assumes nothing.
 use borrow.Author.Needs.{needs}
 use Rattle.book.specs.Layout.{bids-in}
-use mathlib.Core.Path.{_≡_, refl, ap}
-use Prim.Native.Nat.{ℕ, _-_, _≤_}
+use mathlib.Core.Path.{_≡_, refl}
+use Prim.Native.Nat.{_-_, _≤_}
 use Rattle.book.specs.Lists.{all-to}
-use Rattle.book.proofs.Steps.{all-to-next}
-use Rattle.book.specs.Book.{clients}
+use Rattle.book.proofs.Steps.{all-to-next, few-count}
 use Rattle.book.specs.Questions.{few-bids}
-use lib.Dec.{leb}
 use native.Mathlib.Nat.{le-antisymm}
 use Rattle.book.proofs.limit.few_for_each.Statement.{statement}
 use Rattle.book.proofs.limit.few_for_each.Tie as tie
@@ -23,11 +21,10 @@ unfolding all-to
 loop-holds c = (search needs, refl)
 
 loop-again : tie.Need-loop-again Inv-loop μ-loop
-unfolding few-bids
 loop-again c =
     let l = c .before .before .before .loop in (
       search needs,
-      all-to-next (few-bids (bids-in _ _ _ _)) _ (l .ok) _ _ (c .both .ensures) (ap (λ (x : ℕ). leb x 8) (c .before .count-bids .ensures)) (l .inv .1),
+      all-to-next (few-bids (bids-in _ _ _ _)) _ (l .ok) _ _ (c .both .ensures) (few-count _ _ _ (c .before .count-bids .ensures)) (l .inv .1),
     )
 
 returns : tie.Need-returns Inv-loop μ-loop

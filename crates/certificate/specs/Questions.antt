@@ -1,0 +1,47 @@
+-- The number of the first question that refuses a certificate: of question 10 alone, and of questions 11 to 15 in a row. Numbers or tables out of range answer 7 before any other. Cited by the contracts. Assumes nothing: these
+-- are definitions.
+use mathlib.Core.Bool.{Bool, cond, _&&_}
+use Prim.Native.Nat.{ℕ, _*_, _^_}
+use lib.Dec.{leb}
+use Rattle.pricing.specs.Certificate.{Certificate}
+use Rattle.pricing.specs.Ranges.{winners-at-most, sets-at-most, scale-in-range, in-range}
+use Rattle.pricing.specs.Questions.{every, test, within-sets, cover, totals, stationary, slack-sets, slack-reserve, slack-zero}
+
+-- whether the bounds σ of sets and ρ of winners are within those of any book
+unfoldable pub tables-fit : (w : ℕ) → (σ ρ : ℕ → ℕ) → Bool
+tables-fit w σ ρ = leb w 6 && sets-at-most w 6000000 σ && winners-at-most w 1000000 ρ
+
+-- whether what question 10 reads is in range
+unfoldable pub reserve-in-range : (w q : ℕ) → (ρ : ℕ → ℕ) → Bool
+reserve-in-range w q ρ = leb w 6 && scale-in-range q && winners-at-most w 1000000 ρ
+
+-- question 10, the test
+unfoldable pub reserve-kept : (w q : ℕ) → (ρ x : ℕ → ℕ) → Bool
+reserve-kept w q ρ x = every w (λ j. leb (x j) (q * ρ j))
+
+-- question 10 alone: 0, 10 or 7
+unfoldable pub reserve-number : (w q : ℕ) → (ρ x : ℕ → ℕ) → ℕ
+reserve-number w q ρ x = cond (reserve-in-range w q ρ) (cond (reserve-kept w q ρ x) 0 10) 7
+
+-- question 15, the test of its three parts
+unfoldable pub slack-test : Certificate → (σ ρ : ℕ → ℕ) → Bool
+slack-test c σ ρ = test slack-sets c σ ρ && test slack-reserve c σ ρ && test slack-zero c σ ρ
+
+-- the first of questions 11 to 15 whose test fails, or 0
+unfoldable pub first-failed : Certificate → (σ ρ : ℕ → ℕ) → ℕ
+first-failed c σ ρ =
+    cond (test within-sets c σ ρ)
+    (cond (test cover c σ ρ)
+    (cond (test totals c σ ρ)
+    (cond (test stationary c σ ρ)
+    (cond (slack-test c σ ρ)
+    0
+    15)
+    14)
+    13)
+    12)
+    11
+
+-- questions 11 to 15: 0, 11 to 15, or 7
+unfoldable pub balances-number : Certificate → (σ ρ : ℕ → ℕ) → ℕ
+balances-number c σ ρ = cond (in-range c && tables-fit (c .w) σ ρ) (first-failed c σ ρ) 7

@@ -1,0 +1,61 @@
+-- Question 6 as plain facts, both ways; and that behind a sound book it leaves at most six winners and 950 bytes, so question 7's bound on
+-- w refuses nothing more. Cited by the laws on reading and by the sheet's reader. Assumes nothing.
+use mathlib.Core.Path.{_≡_}
+use mathlib.Core.Bool.{true, _&&_}
+use mathlib.Core.List.{List}
+use Prim.Native.Nat.{ℕ, _≤_}
+use native.Mathlib.Nat.{le-trans, le-of-eq}
+use lib.Dec.{leb, eqb}
+use lib.ListN.{length}
+use borrow.Author.Tests.{leb-true, le-leb, eqb-true, eq-eqb}
+use Rattle.book.specs.Bytes.{byte}
+use Rattle.book.specs.Book.{Book, clients}
+use Rattle.book.specs.Layout.{book-in}
+use Rattle.book.specs.Questions.{book-refusal}
+use Rattle.book.proofs.Places.{clients-count}
+use Rattle.book.proofs.Tests.{both-true, true-both}
+use Rattle.book.proofs.Soundness.{sound}
+use Rattle.demands.specs.Sheet.{sheet-long, sheet-w, sheet-formula}
+use Rattle.demands.specs.Questions.{form-good}
+use Rattle.demands.proofs.Sheet.{sheet-formula-most}
+
+pub record Form (b : Book) (ss : List ℕ) : Type 0 where
+  pub there : 4 ≤ length ss
+  pub version : byte 0 ss ≡ 1
+  pub winners : sheet-w ss ≤ clients b
+  pub own : sheet-long ss ≡ sheet-formula (sheet-w ss)
+  pub whole : length ss ≡ sheet-formula (sheet-w ss)
+
+module _ (b : Book) (ss : List ℕ) where
+  pub form-facts : form-good b ss ≡ true → Form b ss
+  unfolding form-good
+  form-facts h =
+      let (front, lengths) = both-true ((leb 4 (length ss) && eqb (byte 0 ss) 1) && leb (sheet-w ss) (clients b)) _ h in
+      let (start, winners) = both-true (leb 4 (length ss) && eqb (byte 0 ss) 1) (leb (sheet-w ss) (clients b)) front in
+      let (there, version) = both-true (leb 4 (length ss)) (eqb (byte 0 ss) 1) start in
+      let (own, whole) = both-true (eqb (sheet-long ss) (sheet-formula (sheet-w ss))) _ lengths in
+      record {
+        there = leb-true 4 (length ss) there;
+        version = eqb-true (byte 0 ss) 1 version;
+        winners = leb-true (sheet-w ss) (clients b) winners;
+        own = eqb-true (sheet-long ss) (sheet-formula (sheet-w ss)) own;
+        whole = eqb-true (length ss) (sheet-formula (sheet-w ss)) whole;
+      }
+
+  pub facts-form : Form b ss → form-good b ss ≡ true
+  unfolding form-good
+  facts-form f =
+      true-both (true-both (true-both (le-leb _ _ (f .there)) (eq-eqb _ _ (f .version))) (le-leb _ _ (f .winners)))
+      (true-both (eq-eqb _ _ (f .own)) (eq-eqb _ _ (f .whole)))
+
+  -- with six clients at most
+  module _ (few : clients b ≤ 6) (h : form-good b ss ≡ true) where
+    pub form-few : sheet-w ss ≤ 6
+    form-few = le-trans (form-facts h .winners) few
+
+    pub form-short : length ss ≤ 950
+    form-short = le-trans (le-of-eq (form-facts h .whole)) (sheet-formula-most (sheet-w ss) form-few)
+
+-- as in a sound book
+pub clients-few : (bs : List ℕ) → book-refusal bs ≡ 0 → clients (book-in bs) ≤ 6
+clients-few bs h = le-trans (le-of-eq (clients-count bs)) (sound bs h .n-high)

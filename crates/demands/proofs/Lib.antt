@@ -1,0 +1,28 @@
+-- The theorems. Assumes nothing.
+-- Tests, sheets and winners.
+pub mod Bools
+pub mod Sheet
+pub mod Form
+pub mod Winners
+-- Combinations shared out among winners and others, the auction that a book makes, and the bounds of sets.
+pub mod Keys
+pub mod Shares
+pub mod Auctions
+pub mod Lowered
+pub mod Suffice
+-- The questions in their order, the demands, and the answer.
+pub mod Chain
+pub mod Passed
+pub mod Accepted
+pub mod Promise
+pub mod Answer
+-- The worked calls, computed.
+pub mod Calls
+pub mod Example
+-- What else is to be shown.
+pub mod More
+pub mod OneDenominator
+-- Reading: bytes cut and lengthened.
+pub mod Alike
+pub mod Pairs
+pub mod Cut

@@ -1,0 +1,146 @@
+-- Inputs that pass the questions: what each question says of them, with the tests of 10 to 15 taken for what they ask; exactly these are
+-- accepted, and whatever else is refused has a number up to 15. Cited by the demands. Assumes nothing.
+use mathlib.Core.Path.{_≡_, refl}
+use mathlib.Core.Bool.{Bool, true, false, not, cond}
+use mathlib.Core.List.{List}
+use Prim.Native.Nat.{ℕ, _≤_}
+use native.Mathlib.Omega.{arith}
+use lib.Dec.{eqb}
+use borrow.Author.Tests.{eqb-true, eqb-false, eq-eqb}
+use Rattle.market.proofs.Bools.{and-parts, and-both}
+use Rattle.pricing.specs.Certificate.{Certificate, Within-reserve, Within-sets, Balances}
+use Rattle.pricing.specs.Questions.{Asks, test, within-reserve, within-sets, cover, totals, stationary}
+use Rattle.pricing.specs.Questions.{slack-sets, slack-reserve, slack-zero}
+use Rattle.pricing.proofs.Questions.{test-iff}
+use Rattle.book.specs.Book.{Book}
+use Rattle.book.specs.Layout.{book-in}
+use Rattle.book.specs.Questions.{version-good, counts-good, tables-good, bids-good, amounts-good, book-refusal}
+use Rattle.combinations.specs.Combinations.{worth}
+use Rattle.combinations.specs.Greatest.{greatest}
+use Rattle.demands.specs.Sheet.{Sheet}
+use Rattle.demands.specs.Winners.{sigma, rho}
+use Rattle.pricing.specs.Ranges.{in-range}
+use Rattle.demands.specs.Questions.{form-good, winners-good, value-good, certificate-tests, sheet-tests, judged}
+use Rattle.demands.specs.Input.{book, sheet, sheet-part, input-refusal, Accepted}
+use Rattle.demands.proofs.Chain.{All, none, more, first-no-all, all-first-no, first-no-most}
+
+-- QUESTIONS 10 TO 15
+pub record Passed (c : Certificate) (σ ρ : ℕ → ℕ) : Type 0 where
+  pub reserve : Within-reserve (c .w) (c .q) ρ (c .X)
+  pub sets : Within-sets (c .w) (c .q) σ (c .X)
+  pub balances : Balances c σ ρ
+
+module _ (c : Certificate) (σ ρ : ℕ → ℕ) where
+  pub certificate-passed : All (certificate-tests c σ ρ) → Passed c σ ρ
+  unfolding certificate-tests Asks
+  certificate-passed (more a (more b (more d (more e (more f (more g none)))))) =
+      let (of-sets, of-winners) = and-parts (test slack-sets c σ ρ) _ g in
+      let (at-reserve, at-zero) = and-parts (test slack-reserve c σ ρ) _ of-winners in
+      record {
+        reserve = test-iff within-reserve c σ ρ .0 a;
+        sets = test-iff within-sets c σ ρ .0 b;
+        balances = record {
+          cover = test-iff cover c σ ρ .0 d;
+          totals = test-iff totals c σ ρ .0 e;
+          stationary = test-iff stationary c σ ρ .0 f;
+          slack-sets = test-iff slack-sets c σ ρ .0 of-sets;
+          slack-reserve = test-iff slack-reserve c σ ρ .0 at-reserve;
+          slack-zero = test-iff slack-zero c σ ρ .0 at-zero;
+        };
+      }
+
+  pub passed-certificate : Passed c σ ρ → All (certificate-tests c σ ρ)
+  unfolding certificate-tests Asks
+  passed-certificate p =
+      let b = p .balances in
+      let at-zero = test-iff slack-zero c σ ρ .1 (b .slack-zero) in
+      let of-winners = and-both (test slack-reserve c σ ρ) _ (test-iff slack-reserve c σ ρ .1 (b .slack-reserve)) at-zero in
+      let slack = and-both (test slack-sets c σ ρ) _ (test-iff slack-sets c σ ρ .1 (b .slack-sets)) of-winners in
+      more (test-iff within-reserve c σ ρ .1 (p .reserve))
+      (more (test-iff within-sets c σ ρ .1 (p .sets))
+      (more (test-iff cover c σ ρ .1 (b .cover))
+      (more (test-iff totals c σ ρ .1 (b .totals))
+      (more (test-iff stationary c σ ρ .1 (b .stationary))
+      (more slack none)))))
+
+-- QUESTIONS 7 TO 15
+pub record Sheet-passed (b : Book) (h : Sheet) : Type 0 where
+  pub ranges : in-range (h .numbers) ≡ true
+  pub winners : winners-good b (h .bids) ≡ true
+  pub value : worth b (h .bids) ≡ greatest b 0
+  pub numbers : Passed (h .numbers) (sigma b (h .bids)) (rho b (h .bids))
+
+module _ (b : Book) (h : Sheet) where
+  all-passed : All (sheet-tests b h) → Sheet-passed b h
+  unfolding sheet-tests value-good
+  all-passed (more ranges (more winners (more value numbers))) =
+      record {
+        ranges = ranges;
+        winners = winners;
+        value = eqb-true (worth b (h .bids)) (greatest b 0) value;
+        numbers = certificate-passed (h .numbers) (sigma b (h .bids)) (rho b (h .bids)) numbers;
+      }
+
+  passed-all : Sheet-passed b h → All (sheet-tests b h)
+  unfolding sheet-tests value-good
+  passed-all p =
+      more (p .ranges)
+      (more (p .winners)
+      (more (eq-eqb (worth b (h .bids)) (greatest b 0) (p .value))
+      (passed-certificate (h .numbers) (sigma b (h .bids)) (rho b (h .bids)) (p .numbers))))
+
+  pub judged-passed : judged b h ≡ 0 → Sheet-passed b h
+  unfolding judged
+  judged-passed e = all-passed (first-no-all 7 (sheet-tests b h) (omega arith) e)
+
+  pub passed-judged : Sheet-passed b h → judged b h ≡ 0
+  unfolding judged
+  passed-judged p = all-first-no 7 (sheet-tests b h) (passed-all p)
+
+  pub judged-most : judged b h ≤ 15
+  unfolding judged sheet-tests certificate-tests
+  judged-most = omega (arith, first-no-most 7 (sheet-tests b h) (omega arith))
+
+-- ALL QUESTIONS
+pub record Input-passed (bs : List ℕ) : Type 0 where
+  pub sound : book-refusal bs ≡ 0
+  pub layout : form-good (book bs) (sheet-part bs) ≡ true
+  pub sheet : Sheet-passed (book bs) (sheet bs)
+
+-- a first number, a test whose 'no' is 6, and a later number
+three-parts : (zero? form : Bool) (first later : ℕ) → eqb first 0 ≡ zero? → cond zero? (cond form later 6) first ≡ 0 →
+    (first ≡ 0) × (form ≡ true) × (later ≡ 0)
+three-parts true true first later e h = (eqb-true first 0 e, refl, h)
+three-parts true false first later e h = absurd (omega arith)
+three-parts false form first later e h = absurd (eqb-false first 0 e h)
+
+three-most : (zero? form : Bool) (first later : ℕ) → first ≤ 15 → later ≤ 15 → cond zero? (cond form later 6) first ≤ 15
+three-most true true first later l m = m
+three-most true false first later l m = omega arith
+three-most false form first later l m = l
+
+pub accepted-passed : (bs : List ℕ) → Accepted bs → Input-passed bs
+unfolding input-refusal
+accepted-passed bs h =
+    let r = book-refusal bs in
+    let (e, f, j) = three-parts (eqb r 0) (form-good (book bs) (sheet-part bs)) r (judged (book bs) (sheet bs)) refl h in
+    record { sound = e; layout = f; sheet = judged-passed (book bs) (sheet bs) j }
+
+pub passed-accepted : (bs : List ℕ) → Input-passed bs → Accepted bs
+unfolding input-refusal
+passed-accepted bs p = rw (p .sound, p .layout, passed-judged (book bs) (sheet bs) (p .sheet))
+
+five-most : (a b c d e : Bool) → cond (not a) 1 (cond (not b) 2 (cond (not c) 3 (cond (not d) 4 (cond (not e) 5 0)))) ≤ 15
+five-most true true true true true = omega arith
+five-most true true true true false = omega arith
+five-most true true true false e = omega arith
+five-most true true false d e = omega arith
+five-most true false c d e = omega arith
+five-most false b c d e = omega arith
+
+pub refusal-most : (bs : List ℕ) → input-refusal bs ≤ 15
+unfolding input-refusal book-refusal
+refusal-most bs =
+    three-most (eqb (book-refusal bs) 0) (form-good (book bs) (sheet-part bs)) (book-refusal bs) (judged (book bs) (sheet bs))
+    (five-most (version-good bs) (counts-good bs) (tables-good (book-in bs)) (bids-good (book-in bs)) (amounts-good (book-in bs)))
+    (judged-most (book bs) (sheet bs))

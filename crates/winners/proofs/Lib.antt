@@ -1,0 +1,12 @@
+-- The laws that the proofs of this crate cite.
+pub mod Rows
+pub mod Clients
+pub mod Choices
+pub mod Supply
+pub mod Values
+pub mod Prefixes
+pub mod Picks
+pub mod Arrays
+pub mod Tables
+pub mod Answers
+pub mod Choosing

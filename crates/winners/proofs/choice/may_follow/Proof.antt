@@ -1,0 +1,35 @@
+-- `winners::choice::may_follow` meets its contract. Assumes nothing.
+use borrow.Author.Needs.{needs}
+use Prim.Native.Nat.{_-_}
+use native.Mathlib.Omega.{arith}
+use Rattle.book.proofs.Soundness.{sound}
+use Rattle.winners.proofs.Choosing.{follows-code}
+use Rattle.book.specs.Book.{clients}
+use Rattle.winners.proofs.choice.may_follow.Statement.{statement}
+use Rattle.winners.proofs.choice.may_follow.Tie as tie
+
+fit-requires : tie.Need-fit-requires
+fit-requires c κs = record { kinds = omega (arith, c .before .before .before .before .before .before .before .before .pre .sound .K-high, c .before .before .before .before .before .before .before .before .pre .kinds); place = omega (arith, c .before .bid-place .ensures .near) }
+
+returns : tie.Need-returns
+returns c =
+    let p = c .before .before .before .before .before .before .before .before .before .before .pre in
+    rw (c .both5 .ensures, c .before .fit .ensures, c .before .before .both4 .ensures, c .before .before .before .before .both3 .ensures, c .before .before .before .before .before .is-standing .ensures, c .before .before .before .before .before .before .both2 .ensures, c .before .before .before .before .before .before .before .both .ensures)
+    (follows-code _ _ _ _ _ _ _ _ _ (p .kinds) (p .bids) (p .clients) (c .before .before .before .before .before .before .before .before .client .ensures) (c .before .before .before .bid-place .ensures))
+
+pub may-follow-spec : {M : Type 1} → statement M
+may-follow-spec =
+    tie.close
+    (tie.spec
+    (λ c κs. search needs)
+    (λ c. search needs)
+    (λ c κs. search needs)
+    (λ c κs. search needs)
+    (λ c κs. search needs)
+    (λ c κs. search needs)
+    (λ c κs. search needs)
+    (λ c. search needs)
+    (λ c κs. search needs)
+    fit-requires
+    (λ c κs. search needs)
+    returns)

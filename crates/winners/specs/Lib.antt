@@ -1,0 +1,4 @@
+pub mod Worth
+pub mod Surpluses
+pub mod Chosen
+pub mod Needs

@@ -1,0 +1,18 @@
+// Layer 2: weighing combinations, over the bytes of a book.
+//
+// What a client may cite: `greatest_value`, with clients discarded; `surpluses`, σ of every set of a list of clients; `combination`, whether
+// bids are a combination by rising client, with their value and clients. Each takes any bytes, asks nothing of its caller, and its
+// contract gives every field of its answer as a value (specs/).
+mod choice;
+mod hours;
+mod lists;
+mod table;
+mod value;
+mod weigh;
+
+pub use choice::Chosen;
+pub use choice::combination;
+pub use table::SigmaTable;
+pub use table::surpluses;
+pub use value::Worth;
+pub use value::greatest_value;

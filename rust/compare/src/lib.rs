@@ -1,0 +1,110 @@
+//! Inputs near every edge, to put to two implementations and compare their answers.
+//!
+//! An example is a sound book with a sheet that is accepted. From it come many inputs that differ
+//! a little:
+//!
+//! - `fields`: each field moved by one, and set to each end of its range and one past it
+//! - `multipliers`: multipliers of one set or one winner changed, and changes that keep some
+//!   balances and break others
+//! - `winners`: winners reordered, repeated, left out, added and exchanged
+//! - `raw`: bytes flipped, cut, doubled, random or none
+//! - `tally`: how often each number was reached, and by which way of changing
+//! - `run`: all of it put to the reference and to another implementation
+
+#![forbid(unsafe_code)]
+
+pub mod fields;
+pub mod multipliers;
+pub mod raw;
+pub mod run;
+pub mod tally;
+pub mod winners;
+
+use generate::{
+    acceptable_sheet, dressed, random_book, small_book, winning_combinations, write, Rng,
+};
+use reference::{Book, Sheet, Weights};
+
+pub use run::{against, Certifier};
+pub use tally::Tally;
+
+/// A sound book and a sheet that is accepted over it.
+#[derive(Clone, Debug)]
+pub struct Example {
+    pub book: Book,
+    pub weights: Weights,
+    pub sheet: Sheet,
+}
+
+/// Bytes to be judged, and how they were made.
+#[derive(Clone, Debug)]
+pub struct Input {
+    pub way: &'static str,
+    pub bytes: Vec<u8>,
+}
+
+impl Example {
+    pub fn of(rng: &mut Rng, book: Book) -> Example {
+        let winners = rng.pick(&winning_combinations(&book)).clone();
+        let weights = Weights::of(&book, &winners);
+        let sheet = acceptable_sheet(rng, &weights, &winners);
+        let sheet = match rng.chance(50) {
+            true => dressed(rng, &weights, &sheet),
+            false => sheet,
+        };
+        Example {
+            book,
+            weights,
+            sheet,
+        }
+    }
+
+    /// An example whose book is quick to judge.
+    pub fn small(rng: &mut Rng) -> Example {
+        let book = small_book(rng);
+        Example::of(rng, book)
+    }
+
+    /// An example with any book, up to full ones.
+    pub fn any(rng: &mut Rng) -> Example {
+        let book = random_book(rng);
+        Example::of(rng, book)
+    }
+
+    pub fn bytes(&self) -> Vec<u8> {
+        write::input(&self.book, &self.sheet)
+    }
+
+    /// As many inputs at random out of all that come from the example, which is one of them.
+    pub fn some_inputs(&self, rng: &mut Rng, count: usize) -> Vec<Input> {
+        let mut all = inputs(rng, self);
+        rng.shuffle(&mut all[1..]);
+        all.truncate(count);
+        all
+    }
+
+    fn with_book(&self, way: &'static str, book: &Book) -> Input {
+        let bytes = write::input(book, &self.sheet);
+        Input { way, bytes }
+    }
+
+    fn with_sheet(&self, way: &'static str, sheet: &Sheet) -> Input {
+        let bytes = write::input(&self.book, sheet);
+        Input { way, bytes }
+    }
+}
+
+/// The example itself and all inputs that come from it, some thousands for a large one.
+pub fn inputs(rng: &mut Rng, example: &Example) -> Vec<Input> {
+    let unchanged = Input {
+        way: "unchanged",
+        bytes: example.bytes(),
+    };
+    let mut inputs = vec![unchanged];
+    inputs.extend(fields::of_book(example));
+    inputs.extend(fields::of_sheet(example));
+    inputs.extend(multipliers::changed(rng, example));
+    inputs.extend(winners::changed(rng, example));
+    inputs.extend(raw::changed(rng, &example.bytes()));
+    inputs
+}

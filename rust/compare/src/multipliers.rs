@@ -1,0 +1,249 @@
+//! Discounts and multipliers changed so that some questions still say yes and others no.
+
+use crate::{Example, Input};
+use generate::fraction::{common_multiple, Fraction};
+use generate::sheets::bounds;
+use generate::simplex::greatest_sum;
+use generate::Rng;
+use reference::sheet::holds;
+use reference::Sheet;
+
+pub fn changed(rng: &mut Rng, example: &Example) -> Vec<Input> {
+    let base = &example.sheet;
+    let w = base.w();
+    let mut inputs = Vec::new();
+    let mut add = |way, change: &dyn Fn(&mut Sheet)| {
+        let mut sheet = base.clone();
+        change(&mut sheet);
+        inputs.push(example.with_sheet(way, &sheet));
+    };
+
+    // One winner's multipliers alone.
+    for j in 0..w {
+        let d = rng.range(1, 9);
+        add("R and T of one", &|sheet| {
+            sheet.winners[j].r += d;
+            sheet.winners[j].t += d;
+        });
+        add("Z of one to s", &|sheet| sheet.winners[j].z = sheet.s);
+        add("no Z of one", &|sheet| sheet.winners[j].z = 0);
+        add("no R of one", &|sheet| sheet.winners[j].r = 0);
+        add("no T of one", &|sheet| sheet.winners[j].t = 0);
+        add("balance of one broken", &|sheet| {
+            sheet.g -= d;
+            for k in (0..w).filter(|&k| k != j) {
+                raise(sheet, k, d);
+            }
+        });
+        add("X of one, balance kept", &|sheet| {
+            sheet.winners[j].x += 1;
+            raise(sheet, j, -1);
+        });
+    }
+
+    // One set's multipliers alone.
+    for set in 1..base.sets.len() {
+        let d = rng.range(1, 9);
+        add("no Y of one set", &|sheet| sheet.sets[set].y = 0);
+        add("no U of one set", &|sheet| sheet.sets[set].u = 0);
+        add("Y of one set to s", &|sheet| sheet.sets[set].y = sheet.s);
+        // Question 14 holds still; 15 does if the set, and the bounds made use of, are met.
+        add("U of one set, members lowered", &|sheet| {
+            sheet.sets[set].u += d;
+            for k in (0..w).filter(|&k| holds(set, k)) {
+                lower_if_it_may(sheet, k, d);
+            }
+        });
+        add("U of one set, others raised", &|sheet| {
+            sheet.sets[set].u += d;
+            sheet.g -= d;
+            for k in (0..w).filter(|&k| !holds(set, k)) {
+                raise_if_it_may(sheet, example, k, d);
+            }
+        });
+        add("U of one set as singles", &|sheet| {
+            let u = std::mem::take(&mut sheet.sets[set].u) + d;
+            sheet.sets[set].u = 0;
+            sheet.g -= d;
+            for k in 0..w {
+                sheet.sets[1 << k].u += if holds(set, k) { u } else { d };
+            }
+        });
+        // Up to σ of the set and one past it, other discounts staying as they are.
+        for past in [0, 1] {
+            let room = base.q * example.weights.sigma[set] - base.x_sum(set) + past;
+            for k in (0..w).filter(|&k| holds(set, k)) {
+                add("X of one up to a set's σ", &|sheet| {
+                    sheet.winners[k].x += room
+                });
+                add("X up to a set's σ, balanced", &|sheet| {
+                    sheet.winners[k].x += room;
+                    raise(sheet, k, -room);
+                });
+            }
+        }
+        // Only this set filled, others emptied: other sets and the sums may hold or not.
+        for past in [0, 1] {
+            add("X of one set alone", &|sheet| {
+                fill_set(sheet, example, set, past);
+            });
+        }
+    }
+
+    // Discounts moved between two winners, the sum staying the same.
+    for from in 0..w {
+        for to in (0..w).filter(|&to| to != from) {
+            for moved in [1, base.winners[from].x / 2, base.winners[from].x] {
+                if moved <= base.winners[from].x {
+                    add("X moved", &|sheet| {
+                        sheet.winners[from].x -= moved;
+                        sheet.winners[to].x += moved;
+                    });
+                    add("X moved, balanced", &|sheet| {
+                        sheet.winners[from].x -= moved;
+                        sheet.winners[to].x += moved;
+                        raise(sheet, from, moved);
+                        raise(sheet, to, -moved);
+                    });
+                }
+            }
+            add("X exchanged", &|sheet| {
+                let x = sheet.winners[from].x;
+                sheet.winners[from].x = sheet.winners[to].x;
+                sheet.winners[to].x = x;
+            });
+        }
+    }
+
+    // All at once.
+    add("no discounts", &|sheet| {
+        for winner in &mut sheet.winners {
+            winner.x = 0;
+        }
+    });
+    add("no multipliers", &|sheet| {
+        let plain = Sheet {
+            g: 0,
+            sets: vec![Default::default(); sheet.sets.len()],
+            ..sheet.clone()
+        };
+        *sheet = plain;
+        for winner in &mut sheet.winners {
+            (winner.z, winner.r, winner.t) = (0, 0, 0);
+        }
+    });
+    add("q doubled, rest kept", &|sheet| sheet.q *= 2);
+    add("s doubled, rest kept", &|sheet| sheet.s *= 2);
+    add("sets in reverse", &|sheet| sheet.sets[1..].reverse());
+    add("greatest numbers", &|sheet| {
+        (sheet.q, sheet.s) = (10_000, 10_000);
+        for winner in &mut sheet.winners {
+            winner.z = 10_000;
+        }
+        for set in &mut sheet.sets[1..] {
+            (set.y, set.u) = (10_000, 1_000_000_000_000);
+        }
+    });
+    // Distances from the capped maximum: equal steps down from the lesser of ρ and σ.
+    add("capped maximum", &|sheet| capped(sheet, example));
+    for sheet in one_set_broken(example) {
+        inputs.push(example.with_sheet("σ of one set broken", &sheet));
+    }
+    inputs
+}
+
+/// Raises the right side of a winner's balance by `by` with R, or lowers it with T.
+fn raise(sheet: &mut Sheet, k: usize, by: i128) {
+    if by >= 0 {
+        sheet.winners[k].r += by;
+    } else {
+        sheet.winners[k].t -= by;
+    }
+}
+
+/// Raises it with a multiplier that question 15 lets stand, if there is one.
+fn raise_if_it_may(sheet: &mut Sheet, example: &Example, k: usize, by: i128) {
+    let at = |bound: i128| sheet.winners[k].x == sheet.q * bound;
+    if sheet.winners[k].t >= by {
+        sheet.winners[k].t -= by;
+    } else if at(example.weights.sigma_of_one(k)) && !at(example.weights.rho[k]) {
+        sheet.sets[1 << k].u += by;
+    } else {
+        sheet.winners[k].r += by;
+    }
+}
+
+/// Lowers it with a multiplier that question 15 lets stand, if there is one.
+fn lower_if_it_may(sheet: &mut Sheet, k: usize, by: i128) {
+    if sheet.winners[k].r >= by {
+        sheet.winners[k].r -= by;
+    } else if sheet.sets[1 << k].u >= by {
+        sheet.sets[1 << k].u -= by;
+    } else {
+        sheet.winners[k].t += by;
+    }
+}
+
+/// For each set, where there are any, discounts that break its bound and no other: the greatest
+/// sum of the set under all bounds but its own, and half the way there from the accepted ones.
+pub fn one_set_broken(example: &Example) -> Vec<Sheet> {
+    let base = &example.sheet;
+    let mut sheets = Vec::new();
+    for set in base.set_numbers() {
+        let mut others = bounds(&example.weights);
+        others.remove(set - 1);
+        let greatest = greatest_sum(base.w(), set, &others);
+        let q = base.q * common_multiple(greatest.x.iter().map(|x| x.bottom));
+        if greatest.sum > Fraction::whole(example.weights.sigma[set]) && q <= 5_000 {
+            let mut far = base.clone();
+            let mut half_way = base.clone();
+            far.q = q;
+            half_way.q = 2 * q;
+            for (k, x) in greatest.x.iter().enumerate() {
+                far.winners[k].x = x.scaled(q);
+                half_way.winners[k].x = x.scaled(q) + base.winners[k].x * (q / base.q);
+            }
+            sheets.extend([far, half_way]);
+        }
+    }
+    sheets
+}
+
+/// Gives the members of a set its whole σ and `past`, as evenly as whole numbers allow, and the
+/// others nothing; the balances of question 14 are made up with R and T.
+fn fill_set(sheet: &mut Sheet, example: &Example, set: usize, past: i128) {
+    let members: Vec<usize> = (0..sheet.w()).filter(|&k| holds(set, k)).collect();
+    let mut left = sheet.q * example.weights.sigma[set] + past;
+    for winner in &mut sheet.winners {
+        winner.x = 0;
+    }
+    for (i, &k) in members.iter().enumerate() {
+        let even = left / (members.len() - i) as i128;
+        let x = even.min(sheet.q * example.weights.rho[k]);
+        sheet.winners[k].x = x;
+        left -= x;
+    }
+    for k in 0..sheet.w() {
+        let wanted = sheet.q * example.weights.sigma_of_one(k) - sheet.winners[k].x;
+        let there = sheet.g + sheet.sum_over_sets_holding(k, |set| set.u);
+        (sheet.winners[k].r, sheet.winners[k].t) = (0, 0);
+        raise(sheet, k, wanted - there);
+    }
+}
+
+/// The same sum, spread as if the distances were taken from the lesser of ρ(j) and σ(j).
+fn capped(sheet: &mut Sheet, example: &Example) {
+    let w = sheet.w() as i128;
+    let weights = &example.weights;
+    let cap = |k: usize| weights.rho[k].min(weights.sigma_of_one(k)) * sheet.q;
+    let caps: Vec<i128> = (0..sheet.w()).map(cap).collect();
+    let sum: i128 = sheet.winners.iter().map(|winner| winner.x).sum();
+    if w > 0 && sheet.q * w <= 10_000 {
+        let short = caps.iter().sum::<i128>() - sum;
+        sheet.q *= w;
+        sheet.g = short;
+        for (winner, cap) in sheet.winners.iter_mut().zip(caps) {
+            winner.x = (cap * w - short).max(0);
+        }
+    }
+}

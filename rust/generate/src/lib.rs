@@ -1,0 +1,23 @@
+//! Inputs for tests: random sound books, and for each an exact sheet that must be accepted.
+//!
+//! - `rng`: a seeded generator of numbers
+//! - `write`: books and sheets as bytes
+//! - `books`, `planted`: random sound books
+//! - `fraction`, `simplex`, `nearest`: exact arithmetic, the greatest sum of discounts with its
+//!   multipliers, and the discounts nearest to the σ(j) with theirs
+//! - `sheets`: acceptable sheets
+
+#![forbid(unsafe_code)]
+
+pub mod books;
+pub mod fraction;
+pub mod nearest;
+pub mod planted;
+pub mod rng;
+pub mod sheets;
+pub mod simplex;
+pub mod write;
+
+pub use books::{random_book, small_book};
+pub use rng::Rng;
+pub use sheets::{acceptable_sheet, dressed, winning_combinations};
