@@ -15,3 +15,4 @@ pub mod Bounds
 pub mod Questions
 pub mod Controls
 pub mod Example
+pub mod Agree

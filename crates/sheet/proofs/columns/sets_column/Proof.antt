@@ -1,0 +1,57 @@
+-- `columns::sets_column` meets its contract. The loop keeps the numbers of the sets that are in. Assumes nothing.
+use mathlib.Core.Path.{sym, _∙_}
+use Prim.Native.Nat.{_+_, _-_, _^_, _≤_}
+use native.Mathlib.Omega.{arith}
+use Rattle.book.specs.Bytes.{field}
+use Rattle.demands.specs.Sheet.{set-place}
+use Rattle.sheet.specs.Columns.{width, Filled}
+use Rattle.sheet.proofs.Filled.{filled-none, filled-more, filled-all, non-empty, non-empty-at, empty-none, sets-filled}
+use borrow.Author.Needs.{needs}
+use Rattle.sheet.proofs.columns.sets_column.Statement.{statement}
+use Rattle.sheet.proofs.columns.sets_column.Tie as tie
+
+abbrev Inv-loop : tie.InvT-loop
+Inv-loop part w behind wide end xs₀ set₀ xs set =
+    (1 ≤ set) × (set ≤ end) × Filled 64 set (non-empty (λ L. field (set-place w L + behind) (width wide) part)) xs
+
+abbrev μ-loop : tie.MeasureT-loop
+μ-loop part w behind wide end xs₀ set₀ xs set = end - set
+
+loop-holds : tie.Need-loop-holds Inv-loop μ-loop
+loop-holds c = (search needs, search needs, filled-none _ 64 1 (empty-none _))
+
+loop-again : tie.Need-loop-again Inv-loop μ-loop
+unfolding set-place
+loop-again c =
+    let inv = c .before .before .loop .inv in (
+      search needs,
+      search needs,
+      filled-more _ _ (omega arith) (c .number-at .ensures ∙ sym (non-empty-at _ _ (inv .0))) (inv .2),
+    )
+
+returns : tie.Need-returns Inv-loop μ-loop
+returns c =
+    let end = 2 ^ c .before .before .before .before .args .w in
+    record { reads = filled-all _ {w = end} (omega arith) (omega arith) (c .before .loop .inv .2) .reads ∙ sets-filled _ _ }
+
+pub sets-column-spec : {M : Type 1} → statement M
+sets-column-spec =
+    tie.close
+    (tie.spec
+    Inv-loop
+    μ-loop
+    (λ c κs. search needs)
+    loop-holds
+    (λ c. search needs)
+    (λ c. search needs)
+    (λ c. search needs)
+    (λ c. search needs)
+    (λ c. search needs)
+    (λ c. search needs)
+    (λ c κs. search needs)
+    (λ c. search needs)
+    (λ c. search needs)
+    (λ c. search needs)
+    (λ c. search needs)
+    loop-again
+    returns)
