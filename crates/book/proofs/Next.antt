@@ -1,14 +1,13 @@
 -- The next of a run: what stands first among the t bytes, kinds or bids from a place on, and where the rest begin. A loop that moves a
 -- place on and counts down what is left steps by these. Also how long a run is, and where its i-th stands. Cited by the proofs of src/
 -- and by the layers above. Assumes nothing.
-use mathlib.Core.Path.{_≡_, refl, sym, ap, _∙_}
+use mathlib.Core.Path.{_≡_, refl, ap, _∙_}
 use mathlib.Core.List.{List, [], _∷_, _++_}
-use Prim.Native.Nat.{ℕ, zero, suc, _+_, _*_, _-_, _≤_, _<_}
-use native.Mathlib.Numerals.{add-one, sub-one}
+use Prim.Native.Nat.{ℕ, zero, suc, _+_, _-_, _≤_, _<_}
+use native.Mathlib.Numerals.{add-one}
 use native.Mathlib.Omega.{arith}
-use lib.ListN.{length, getD}
+use lib.ListN.{length}
 use Rattle.book.specs.Bytes.{byte, bytes-at}
-use Rattle.book.specs.Book.{Kind, Bid, no-bid}
 use Rattle.book.specs.Layout.{kind-here, kinds-in, bid-here, bids-in}
 
 -- what holds of suc t holds of a t above 0

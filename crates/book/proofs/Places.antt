@@ -9,9 +9,9 @@ use mathlib.Core.Bool.{false}
 use lib.Dec.{eqb}
 use lib.ListN.{length, getD, length-map, List·getD-eq-default}
 use lib.Seq.{ext-getD}
-use Rattle.book.specs.Bytes.{byte, field, bytes-at}
+use Rattle.book.specs.Bytes.{byte, bytes-at}
 use Rattle.book.specs.Places.{Bid-place}
-use Rattle.book.specs.Book.{Kind, Bid, Book, no-bid, bid-at, client-of, clients, standing, supplies, reserves-of}
+use Rattle.book.specs.Book.{Kind, Bid, no-bid, bid-at, client-of, clients, standing, supplies, reserves-of}
 use Rattle.book.specs.Layout.{K-of, n-of, m-of, statuses-from, bids-from, kind-here, kinds-in, bid-here, bids-in, book-in}
 use Rattle.book.proofs.Fields.{byte-past, field-past}
 use Rattle.book.proofs.Next.{bytes-length, kinds-length, bids-length}

@@ -1,8 +1,7 @@
 -- How large products of a book's small numbers are: what the overflow of the code's multiplications asks. Cited by the proofs of src/.
 -- Assumes nothing.
-use Prim.Native.Nat.{ℕ, _+_, _*_, _≤_, _<_}
-use native.Mathlib.Nat.{mul-le-mul, le-pred-of-lt}
-use native.Mathlib.Omega.{arith}
+use Prim.Native.Nat.{ℕ, _*_, _≤_}
+use native.Mathlib.Nat.{mul-le-mul}
 
 -- two factors at most a and b have a product of at most a * b
 pub product-most : (a b x y : ℕ) → x ≤ a → y ≤ b → x * y ≤ a * b

@@ -1,23 +1,21 @@
 -- A book is refused with 0 exactly where it is sound: `sound` and `refusal-zero`. And how long a sound book can be. Cited by the layers
 -- above. Assumes nothing.
-use mathlib.Core.Path.{_≡_, refl, sym, ap, _∙_}
+use mathlib.Core.Path.{_≡_, refl, sym}
 use mathlib.Core.Bool.{Bool, true, false, _&&_, not, cond}
-use mathlib.Core.List.{List, [], _∷_}
+use mathlib.Core.List.{List}
 use Prim.Native.Nat.{ℕ, zero, suc, _+_, _*_, _-_, _≤_, _<_}
 use native.Mathlib.Nat.{le-trans, le-of-eq}
 use native.Mathlib.Omega.{arith}
-use lib.Dec.{leb, ltb, eqb}
+use lib.Dec.{leb, ltb}
 use lib.ListN.{length, getD}
-use borrow.Author.Tests.{leb-true, le-leb, ltb-true, lt-ltb, eqb-true, eq-eqb}
-use Rattle.book.specs.Bytes.{byte}
-use Rattle.book.specs.Lists.{within, all, all-to, total}
-use Rattle.book.specs.Book.{Kind, Bid, Book, no-bid, bid-at, client-of, clients, reserves-of}
+use borrow.Author.Tests.{leb-true, le-leb, lt-ltb, eqb-true, eq-eqb}
+use Rattle.book.specs.Lists.{within, all, total}
+use Rattle.book.specs.Book.{Bid, no-bid, bid-at, client-of, clients}
 use Rattle.book.specs.Layout.{book-long, K-of, n-of, m-of, book-in}
-use Rattle.book.specs.Questions.{version-good, book-formula, counts-good, kind-good, status-good, tables-good, bid-good, bids-of, few-bids, bids-good, reserves-met, amounts-good, book-refusal}
+use Rattle.book.specs.Questions.{version-good, book-formula, counts-good, kind-good, status-good, tables-good, bid-good, few-bids, bids-good, reserves-met, amounts-good, book-refusal}
 use Rattle.book.specs.Sound.{no-kind, Sound}
 use Rattle.book.proofs.Products.{product-most}
 use Rattle.book.proofs.Places.{kinds-count, clients-count, bids-count}
-use Rattle.book.proofs.Next.{bytes-length}
 use Rattle.book.proofs.Tests.{both-true, true-both, within-true, true-within, all-true, true-all, all-to-true, true-all-to}
 
 -- five questions in a row, of which none is answered no

@@ -1,6 +1,6 @@
 -- Books of bids as values (FORMAT, "Book"): kinds of hour, clients' statuses, bids. Read from bytes in Layout. The layers above speak of
 -- a book through these definitions. Assumes nothing: these are definitions.
-use mathlib.Core.Bool.{Bool, true, false}
+use mathlib.Core.Bool.{Bool, false}
 use mathlib.Core.List.{List, [], _∷_, map}
 use Prim.Native.Nat.{ℕ, zero, suc, _+_, _*_}
 use lib.Dec.{eqb}

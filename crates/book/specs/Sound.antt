@@ -6,7 +6,7 @@ use Prim.Native.Nat.{ℕ, _≤_, _<_}
 use lib.ListN.{length, getD}
 use Rattle.book.specs.Bytes.{byte}
 use Rattle.book.specs.Lists.{total}
-use Rattle.book.specs.Book.{Kind, Bid, Book, bid-at, client-of, reserves-of}
+use Rattle.book.specs.Book.{Kind, bid-at, client-of, reserves-of}
 use Rattle.book.specs.Layout.{book-long, K-of, n-of, m-of, book-in}
 use Rattle.book.specs.Questions.{book-formula, bids-of}
 

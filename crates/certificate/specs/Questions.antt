@@ -1,7 +1,7 @@
 -- The number of the first question that refuses a certificate: of question 10 alone, and of questions 11 to 15 in a row. Numbers or tables out of range answer 7 before any other. Cited by the contracts. Assumes nothing: these
 -- are definitions.
 use mathlib.Core.Bool.{Bool, cond, _&&_}
-use Prim.Native.Nat.{ℕ, _*_, _^_}
+use Prim.Native.Nat.{ℕ, _*_}
 use lib.Dec.{leb}
 use Rattle.pricing.specs.Certificate.{Certificate}
 use Rattle.pricing.specs.Ranges.{winners-at-most, sets-at-most, scale-in-range, in-range}

@@ -1,10 +1,10 @@
 -- A book as a market: no bid asks for a kind that has no supply, whoever stands is one of the clients 1 to n, and the one-pass test is a
 -- combination by rising client. For any bytes, sound or not. Cited by the layers above. Assumes nothing.
-use mathlib.Core.Path.{_≡_, refl, sym, _∙_}
-use mathlib.Core.Bool.{Bool, true, false, false≢true}
+use mathlib.Core.Path.{_≡_, sym, _∙_}
+use mathlib.Core.Bool.{true, false, false≢true}
 use mathlib.Core.List.{List}
 use mathlib.Core.Logic.{_↔_, _≢_}
-use Prim.Native.Nat.{ℕ, zero, suc, _≤_, _<_}
+use Prim.Native.Nat.{ℕ, _≤_, _<_}
 use native.Mathlib.Nat.{le-trans, le-of-eq}
 use native.Mathlib.Decide.{decLe}
 use native.Mathlib.Omega.{arith}
@@ -12,8 +12,8 @@ use lib.ListN.{length}
 use Rattle.market.specs.Market.{Market, at, Supplied}
 use Rattle.market.specs.Combination as Market·
 use Rattle.market.proofs.Test as Test
-use Rattle.book.specs.Book.{Book, bid-at, client-of, clients, standing, supplies}
-use Rattle.book.specs.Layout.{book-in, n-of}
+use Rattle.book.specs.Book.{client-of, clients, standing, supplies}
+use Rattle.book.specs.Layout.{book-in}
 use Rattle.book.proofs.Places.{hours-most, supplies-count, clients-count, standing-past, standing-zero}
 use Rattle.combinations.specs.Combinations.{market, Combination, Rising}
 

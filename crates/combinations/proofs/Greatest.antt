@@ -1,22 +1,20 @@
 -- The recursion gives the greatest value: unbeaten and attained over combinations of clients that stay, for any bytes (greatest-value).
 -- Cited by the contract of the greatest value and by the layers above. Assumes nothing.
 use mathlib.Core.Path.{_≡_, refl, sym, ap, fun-ext}
-use mathlib.Core.Bool.{Bool, true, false, not}
+use mathlib.Core.Bool.{Bool, false, not}
 use mathlib.Core.List.{List}
 use mathlib.Core.Logic.{_↔_}
-use Prim.Native.Nat.{ℕ, zero, suc, _≤_, _<_}
+use Prim.Native.Nat.{ℕ, zero, suc, _≤_}
 use native.Mathlib.Nat.{le-trans, le-of-eq, le-antisymm}
 use borrow.Author.Tests.{not-true}
-use lib.ListN.{length}
-use Rattle.market.specs.Market.{Market, at}
-use Rattle.market.specs.Restrict.{only}
+use Rattle.market.specs.Market.{Market}
 use Rattle.market.specs.Combination as Market·
 use Rattle.market.proofs.Optimum.{greatest-best}
 use Rattle.market.proofs.Restrict.{combination-only}
 use Rattle.sets.proofs.Members.{has-zero}
-use Rattle.book.specs.Book.{Book, client-of, clients, supplies}
+use Rattle.book.specs.Book.{Book, clients, supplies}
 use Rattle.book.specs.Layout.{book-in}
-use Rattle.combinations.specs.Combinations.{market, amount-of, Combination, worth}
+use Rattle.combinations.specs.Combinations.{market, amount-of, Combination}
 use Rattle.combinations.specs.Greatest.{without, greatest-without, None-out, Greatest-value, discarded, greatest}
 use Rattle.combinations.proofs.Books.{supplied}
 

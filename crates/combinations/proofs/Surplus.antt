@@ -4,18 +4,17 @@ use mathlib.Core.Path.{_≡_, refl, sym, ap, _∙_}
 use mathlib.Core.Bool.{Bool, true, false, _&&_, _||_, or-true, false≢true}
 use mathlib.Core.List.{List}
 use mathlib.Core.Logic.{_≢_, inl, inr}
-use Prim.Native.Nat.{ℕ, zero, suc, _+_, _-_, _≤_, _<_}
-use native.Mathlib.Nat.{le-of-suc-le-suc, eq-or-lt-of-le, sub-add-cancel}
+use Prim.Native.Nat.{ℕ, zero, suc, _-_, _<_}
+use native.Mathlib.Nat.{le-of-suc-le-suc, eq-or-lt-of-le}
 use native.Mathlib.Omega.{arith}
 use borrow.Author.Tests.{eqb-true, eq-eqb}
 use lib.Dec.{eqb}
 use lib.ListN.{length}
 use Rattle.sets.specs.Sets.{has}
 use Rattle.market.specs.Market.{at}
-use Rattle.market.proofs.Bools.{either, and-parts, and-both}
-use Rattle.book.specs.Book.{Book}
+use Rattle.market.proofs.Bools.{and-parts, and-both}
 use Rattle.book.specs.Layout.{book-in}
-use Rattle.combinations.specs.Greatest.{greatest, greatest-without}
+use Rattle.combinations.specs.Greatest.{greatest-without}
 use Rattle.combinations.specs.Surplus.{any, picked, surplus, Surplus-is}
 use Rattle.combinations.proofs.Greatest.{greatest-value, greatest-fewer, greatest-all}
 

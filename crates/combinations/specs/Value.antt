@@ -1,14 +1,13 @@
 -- What the greatest value alone answers, as a value (FORMAT, "Answers" and question 16). Cited by the contract of that operation and by the
 -- table of worked calls. Assumes nothing: these are definitions.
-use mathlib.Core.Path.{_≡_}
 use mathlib.Core.Bool.{cond}
 use mathlib.Core.List.{List}
-use Prim.Native.Nat.{ℕ, _^_, _≤_}
+use Prim.Native.Nat.{ℕ, _^_}
 use lib.Dec.{ltb, eqb}
 use Rattle.book.specs.Book.{clients}
 use Rattle.book.specs.Layout.{book-in}
 use Rattle.book.specs.Questions.{book-refusal}
-use Rattle.combinations.specs.Greatest.{discarded, greatest, Greatest-value}
+use Rattle.combinations.specs.Greatest.{greatest}
 
 pub record Value : Type 0 where
   pub number : ℕ

@@ -2,8 +2,8 @@
 -- right. Cited by the contract of judging and by the table of worked calls. Assumes nothing: these are definitions.
 use mathlib.Core.Path.{_≡_}
 use mathlib.Core.Bool.{cond}
-use mathlib.Core.List.{List, [], _∷_}
-use Prim.Native.Nat.{ℕ, zero, suc, _*_, _-_, _≤_, _<_}
+use mathlib.Core.List.{List}
+use Prim.Native.Nat.{ℕ, _*_, _-_, _≤_, _<_}
 use lib.Dec.{ltb, eqb}
 use lib.ListN.{length, replicate}
 use Rattle.market.specs.Market.{at}

@@ -1,5 +1,9 @@
 // The library for callers in C and Rust: functions that return their answers by value and lend nothing.
+use judge::Prices;
+use text::Text;
 use winners::Worth;
+ghost use Rattle.judge.specs.Judgement.{Judgement};
+ghost use Rattle.listing.specs.Listing.{Listed};
 ghost use Rattle.winners.specs.Worth.{Worth-is};
 
 // The greatest value of a book with clients discarded.
@@ -8,4 +12,20 @@ pub extern "C" fn gimletsorrel_greatest_value(book: &[u8], discard: u8) -> Worth
     ensures { λ r. ⌜ Worth-is (now (book .entry)) discard (r .number) (r .value) ⌝ }
 {
     winners::greatest_value(book, discard)
+}
+
+// The answer to an input: a book, and the sheet after it.
+#[no_mangle]
+pub extern "C" fn gimletsorrel_judge_sheet(input: &[u8]) -> Prices
+    ensures { λ r. ⌜ Judgement (now (input .entry)) r ⌝ }
+{
+    judge::judge_sheet(input)
+}
+
+// The text that is printed for an input.
+#[no_mangle]
+pub extern "C" fn gimletsorrel_price_list(input: &[u8]) -> Text
+    ensures { λ r. ⌜ Listed (now (input .entry)) r ⌝ }
+{
+    listing::price_list(input)
 }

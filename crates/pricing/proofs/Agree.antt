@@ -7,7 +7,7 @@ use native.Mathlib.Omega.{arith}
 use lib.Dec.{leb, eqb}
 use lib.IntN.{ℤ, pos, _+ℤ_, _-ℤ_}
 use Rattle.sets.specs.Sums.{sum}
-use Rattle.sets.specs.Sets.{sum-in, over-sets, holding, single}
+use Rattle.sets.specs.Sets.{sum-in, holding, single}
 use Rattle.sets.proofs.Sums.{sum-ext}
 use Rattle.sets.proofs.Sets.{over-ext}
 use Rattle.sets.proofs.Members.{single-positive, single-lt}

@@ -1,11 +1,10 @@
 -- `book::bytes::number_at` meets its contract. The loop's invariant: v is the number in the first i bytes. Assumes nothing.
 use borrow.Author.Needs.{needs}
-use mathlib.Core.Path.{_≡_, refl, sym, ap, _∙_}
-use Prim.Native.Nat.{_+_, _-_, _≤_, _<_, _^_}
+use mathlib.Core.Path.{_≡_, refl, sym}
+use Prim.Native.Nat.{_-_, _≤_, _<_, _^_}
 use native.Mathlib.Omega.{arith}
 use native.Mathlib.Nat.{one-le-pow, le-antisymm}
 use lib.Dec.{lit<}
-use lib.ListN.{length}
 use Rattle.book.specs.Bytes.{field}
 use Rattle.book.proofs.Fields.{field-past, field-next, digit-below, digit-fits}
 use Rattle.book.proofs.bytes.number_at.Statement.{statement}

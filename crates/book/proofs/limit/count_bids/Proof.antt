@@ -3,7 +3,6 @@ use borrow.Author.Needs.{needs}
 use Rattle.book.specs.Layout.{bid-here, bids-in}
 use mathlib.Core.Path.{_≡_, ap, _∙_}
 use Prim.Native.Nat.{ℕ, _+_, _*_, _-_, _≤_}
-use Rattle.book.specs.Lists.{count}
 use Rattle.book.proofs.Next.{bids-next, bids-none}
 use Rattle.book.proofs.Steps.{count-next, count-done}
 use Rattle.book.specs.Questions.{bids-of}

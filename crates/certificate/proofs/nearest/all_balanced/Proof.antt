@@ -2,7 +2,7 @@
 use mathlib.Core.Path.{_≡_, refl, _∙_}
 use Prim.Native.Nat.{_-_, _^_, _≤_, _<_}
 use Rattle.sets.specs.Sets.{single}
-use Rattle.pricing.specs.Questions.{every, test}
+use Rattle.pricing.specs.Questions.{every}
 use Rattle.certificate.specs.Figures.{at}
 use Rattle.certificate.proofs.Steps.{power-most, every-more, every-end}
 use lib.Dec.{eqb}

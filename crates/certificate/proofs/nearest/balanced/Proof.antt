@@ -1,6 +1,5 @@
 -- `nearest::balanced` meets its contract: no sum is above 10^14. Assumes nothing.
 use Prim.Native.Nat.{_*_, _^_, _≤_}
-use Rattle.certificate.specs.Figures.{above}
 use native.Mathlib.Nat.{mul-le-mul}
 use Rattle.certificate.proofs.Balance.{signed-magnitude}
 use native.Mathlib.Omega.{arith}

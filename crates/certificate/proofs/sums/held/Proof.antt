@@ -2,7 +2,6 @@
 use mathlib.Core.Path.{_≡_}
 use mathlib.Core.Bool.{cond}
 use Prim.Native.Nat.{_-_, _*_, _^_, _≤_}
-use Rattle.sets.specs.Sums.{sum}
 use Rattle.sets.specs.Sets.{has, holding}
 use Rattle.certificate.specs.Figures.{at}
 use Rattle.certificate.proofs.Steps.{sum-before, sum-before-none, sum-before-more, sum-before-end}

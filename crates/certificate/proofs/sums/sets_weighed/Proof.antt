@@ -1,7 +1,6 @@
 -- `sums::sets_weighed` meets its contract. The invariant: `added` is the sum over the sets passed. Assumes nothing.
 use mathlib.Core.Path.{_≡_, refl}
 use Prim.Native.Nat.{_-_, _*_, _^_, _≤_, _<_}
-use Rattle.sets.specs.Sums.{sum}
 use Rattle.certificate.specs.Figures.{at}
 use Rattle.certificate.proofs.Steps.{sum-before, sum-before-none, sum-before-more, sum-before-end}
 use native.Mathlib.Nat.{mul-le-mul}

@@ -1,0 +1,71 @@
+-- Whatever answers with the definitions' answer keeps every promise (judgement), and which number an input has by where it is refused.
+-- Cited by the proofs of src/lib.rt. Assumes nothing.
+use mathlib.Core.Path.{_≡_, sym, ap, _∙_}
+use mathlib.Core.Bool.{true, false}
+use mathlib.Core.List.{List}
+use mathlib.Core.Logic.{_⊎_, inl, inr, ⊎-elim}
+use Prim.Native.Nat.{ℕ, _≤_, _<_}
+use native.Mathlib.Nat.{le-trans, le-of-eq}
+use native.Mathlib.Omega.{arith}
+use borrow.Author.Tests.{ne-eqb}
+use Rattle.book.specs.Questions.{book-refusal}
+use Rattle.demands.specs.Input.{book, sheet, sheet-part, input-refusal, Accepted}
+use Rattle.demands.specs.Questions.{form-good, judged}
+use Rattle.sets.specs.Tables.{tabulate}
+use Rattle.book.specs.Book.{Book}
+use Rattle.demands.specs.Sheet.{Sheet}
+use Rattle.demands.specs.Answer.{Answer, answer-of, price, acceptance, refusal}
+use Rattle.demands.specs.Promise.{Demand-1}
+use Rattle.demands.proofs.Promise.{demand-1, demand-2, demand-3}
+use Rattle.demands.proofs.Answer.{answer-accepted, answer-refused, answered}
+use Rattle.judge.specs.declared.Prices.{Prices}
+use Rattle.judge.specs.Judgement.{answer-in, Judgement}
+
+pub judgement : (bs : List ℕ) (r : Prices) → answer-in r ≡ answer-of bs → Judgement bs r
+unfolding Demand-1
+judgement bs r e =
+    let number : r .number ≡ input-refusal bs = ap (λ (a : Answer). a .number) e ∙ answered bs .number in
+    record {
+      fields = e;
+      accepted = (λ z. sym number ∙ z, λ a. number ∙ a);
+      demand-1 = ⊎-elim (λ (a : Accepted bs). inl (number ∙ a))
+          (λ l. inr (le-trans (l .0) (le-of-eq (sym number)), le-trans (le-of-eq number) (l .1), rw e (answered bs .zeros (l .0)))) (demand-1 bs);
+      demand-2 = demand-2 bs;
+      priced = λ z. rw e (answered bs .priced (sym number ∙ z));
+      demand-3 = demand-3 bs;
+    }
+
+-- an acceptance, field by field
+pub acceptance-is : (b : Book) (h : Sheet) (w q : ℕ) (prices : List ℕ) → w ≡ h .numbers .w → q ≡ h .numbers .q → prices ≡ tabulate 6 (price b h)
+    → record { number = 0; w = w; q = q; prices = prices } ≡ acceptance b h
+unfolding acceptance
+acceptance-is b h w q prices ew eq ep = λ i. record { number = 0; w = ew i; q = eq i; prices = ep i }
+
+module _ (bs : List ℕ) where
+  refused-with : (n : ℕ) → input-refusal bs ≡ n → 0 < n → refusal n ≡ answer-of bs
+  unfolding answer-of
+  refused-with n e l = sym (answer-refused (input-refusal bs) (book bs) (sheet bs) (le-trans l (le-of-eq (sym e))) ∙ ap refusal e)
+
+  -- the book is refused
+  pub refused-book : (n : ℕ) → n ≡ book-refusal bs → 0 < n → refusal n ≡ answer-of bs
+  unfolding input-refusal
+  refused-book n e l = refused-with n (rw (ne-eqb (book-refusal bs) 0 (λ (z : book-refusal bs ≡ 0). omega arith)) (sym e)) l
+
+  -- what follows it has no good form
+  pub refused-form : book-refusal bs ≡ 0 → form-good (book bs) (sheet-part bs) ≡ false → refusal 6 ≡ answer-of bs
+  unfolding input-refusal
+  refused-form e f = refused-with 6 (rw (e, f)) (omega arith)
+
+  module _ (e : book-refusal bs ≡ 0) (f : form-good (book bs) (sheet-part bs) ≡ true) where
+    number-judged : input-refusal bs ≡ judged (book bs) (sheet bs)
+    unfolding input-refusal
+    number-judged = rw (e, f)
+
+    -- the sheet is refused
+    pub refused-sheet : (n : ℕ) → n ≡ judged (book bs) (sheet bs) → 0 < n → refusal n ≡ answer-of bs
+    refused-sheet n j l = refused-with n (number-judged ∙ sym j) l
+
+    -- it is accepted
+    pub accepted-sheet : (n : ℕ) → n ≡ judged (book bs) (sheet bs) → n ≤ 0 → acceptance (book bs) (sheet bs) ≡ answer-of bs
+    unfolding answer-of
+    accepted-sheet n j l = sym (answer-accepted (input-refusal bs) (book bs) (sheet bs) (number-judged ∙ sym j ∙ omega arith))

@@ -1,0 +1,3 @@
+pub mod Judgement
+pub mod Chain
+pub mod Needs

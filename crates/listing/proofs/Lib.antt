@@ -1,0 +1,10 @@
+-- The laws of the printed text. Assumes nothing.
+-- How it is pushed, how long it is, and that it is the one.
+pub mod Pushing
+pub mod Bids
+pub mod Limits
+pub mod Listed
+-- Reading: inputs cut.
+pub mod Cut
+-- The definition at work.
+pub mod Example

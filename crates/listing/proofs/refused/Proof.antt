@@ -1,0 +1,27 @@
+-- `listing::refused` meets its contract. Assumes nothing.
+use mathlib.Core.Path.{ap, _∙_}
+use Rattle.text.specs.declared.Text.{Text}
+use Rattle.text.specs.Text.{pushes}
+use Rattle.listing.specs.Listing.{refused-word, refused-text}
+use Rattle.listing.proofs.Pushing.{part-more, field-more, line-end}
+use borrow.Author.Needs.{needs}
+use Rattle.listing.proofs.refused.Statement.{statement}
+use Rattle.listing.proofs.refused.Tie as tie
+
+returns : tie.Need-returns
+unfolding refused-word refused-text
+returns c =
+    part-more _ _ _ refused-word _
+    (c .before .before .push-word .ensures ∙ ap (λ (t : Text). pushes t refused-word) (c .before .before .before .before .empty .ensures))
+    (field-more _ _ _ _ _ (c .before .push-field .ensures) (line-end _ _ (c .push .ensures)))
+
+pub refused-spec : {M : Type 1} → statement M
+refused-spec =
+    tie.close
+    (tie.spec
+    (λ c κs. search needs)
+    (λ c. search needs)
+    (λ c κs. search needs)
+    (λ c κs. search needs)
+    (λ c κs. search needs)
+    returns)

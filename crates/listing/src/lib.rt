@@ -1,0 +1,103 @@
+// What is printed of an input: its price list, or its refusal.
+//
+// What a client may cite: `price_list`, which takes any input and asks nothing, with its contract `Listed` (specs/Listing.antt): the text
+// byte by byte, and that it fits. A law in proofs/ says that an input cut past the longest call has the same text.
+ghost use mathlib.Core.Path.{_≡_};
+ghost use mathlib.Core.List.{_∷_, []};
+ghost use Rattle.market.specs.Market.{at};
+ghost use Rattle.demands.specs.Input.{sheet};
+ghost use Rattle.text.specs.Decimal.{decimal};
+ghost use Rattle.text.specs.Text.{blank, pushes};
+ghost use Rattle.listing.specs.Listing.{accepted-word, ending, line, winner-line, winner-lines, refused-text, Listed};
+ghost use Rattle.listing.specs.Needs.{Winner, Winners};
+use book::bytes;
+use book::entries;
+use book::layout;
+use text::Text;
+
+// The bytes of a word behind `t`.
+fn push_word(t: Text, word: &[u8]) -> Text
+    ensures { λ r. ⌜ r ≡ pushes t (now (word .entry)) ⌝ }
+{
+    let mut out = t;
+    let mut i: usize = 0;
+    while i < word.len() {
+        out = text::push(out, word[i]);
+        i += 1;
+    }
+    out
+}
+
+// A space and a number behind `t`.
+fn push_field(t: Text, n: u64) -> Text
+    ensures { λ r. ⌜ r ≡ pushes t (32 ∷ decimal n) ⌝ }
+{
+    text::push_decimal(text::push(t, 32), n)
+}
+
+// The two last fields of a line, and its end, behind `t`.
+fn push_two(t: Text, a: u64, b: u64) -> Text
+    ensures { λ r. ⌜ r ≡ pushes t (ending (a ∷ b ∷ [])) ⌝ }
+{
+    text::push(push_field(push_field(t, a), b), 10)
+}
+
+// A refusal's text.
+fn refused(number: u64) -> Text
+    ensures { λ r. ⌜ r ≡ pushes blank (refused-text number) ⌝ }
+{
+    text::push(push_field(push_word(text::empty(), b"refused"), number), 10)
+}
+
+// An acceptance's first line.
+fn first_line(w: u64, q: u64) -> Text
+    ensures { λ r. ⌜ r ≡ pushes blank (line accepted-word (w ∷ q ∷ [])) ⌝ }
+{
+    push_two(push_word(text::empty(), b"accepted"), w, q)
+}
+
+// The bid number of winner k.
+fn bid_of(input: &[u8], k: usize) -> u8
+    requires { ⌜ Winner (now input) k ⌝ }
+    ensures { λ r. ⌜ r ≡ at (sheet (now (input .entry)) .bids) k ⌝ }
+{
+    let from = layout::length(input) as usize;
+    bytes::byte_at(input, from + 4 + k)
+}
+
+// The line of winner k behind `t`.
+fn push_winner(input: &[u8], t: Text, k: usize, price: u64) -> Text
+    requires { ⌜ Winner (now input) k ⌝ }
+    ensures { λ r. ⌜ r ≡ pushes t (winner-line (now (input .entry)) k price) ⌝ }
+{
+    let bid = bid_of(input, k);
+    let client = entries::client(input, bid as usize);
+    push_two(text::push_decimal(t, client as u64), bid as u64, price)
+}
+
+// The lines of w winners behind `t`.
+fn push_winners(input: &[u8], t: Text, w: usize, prices: [u64; 6]) -> Text
+    requires { ⌜ Winners (now input) w ⌝ }
+    ensures { λ r. ⌜ r ≡ pushes t (winner-lines (now (input .entry)) w prices) ⌝ }
+{
+    let mut out = t;
+    let mut k: usize = 0;
+    while k < w {
+        out = push_winner(input, out, k, prices[k]);
+        k += 1;
+    }
+    out
+}
+
+// The printed text of any input.
+pub fn price_list(input: &[u8]) -> Text
+    ensures { λ r. ⌜ Listed (now (input .entry)) r ⌝ }
+{
+    let answer = judge::judge_sheet(input);
+    let prices = answer.prices;
+    if 0 < answer.number {
+        return refused(answer.number as u64);
+    }
+    let first = first_line(answer.w as u64, answer.q as u64);
+    push_winners(input, first, answer.w as usize, prices)
+}

@@ -1,0 +1,13 @@
+// The program: reads a call from standard input and writes its price list, or its refusal, to standard output. A call has at most 1,406
+// bytes, so one byte more decides as much as any number of bytes would.
+use libc::STDIN_FILENO;
+use libc::STDOUT_FILENO;
+
+fn main() {
+    let mut input = [0u8; 1407];
+    let n = io::read_full(STDIN_FILENO, &mut input);
+    let list = listing::price_list(&input[..n]);
+    let bytes = list.bytes;
+    let len = list.len;
+    io::write_all(STDOUT_FILENO, &bytes[..len]);
+}
