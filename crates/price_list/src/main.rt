@@ -1,5 +1,6 @@
 // The program: reads a call from standard input and writes its price list, or its refusal, to standard output. A call has at most 1,406
-// bytes, so one byte more decides as much as any number of bytes would.
+// bytes, so one byte more decides as much as any number of bytes would. Where the text cannot be written, standard error says so.
+use libc::STDERR_FILENO;
 use libc::STDIN_FILENO;
 use libc::STDOUT_FILENO;
 
@@ -9,5 +10,11 @@ fn main() {
     let list = listing::price_list(&input[..n]);
     let bytes = list.bytes;
     let len = list.len;
-    io::write_all(STDOUT_FILENO, &bytes[..len]);
+    let written = io::write_all(STDOUT_FILENO, &bytes[..len]);
+    if !written {
+        io::write_all(
+            STDERR_FILENO,
+            b"price_list: the answer could not be written\n",
+        );
+    }
 }
