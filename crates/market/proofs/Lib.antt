@@ -7,6 +7,7 @@ pub mod Worth
 -- The recursion is the greatest over vectors.
 pub mod Choose
 pub mod Best
+pub mod Prune
 -- Combinations: their parts, bid after bid, the test, client by client, as vectors.
 pub mod Parts
 pub mod Row

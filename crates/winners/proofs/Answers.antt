@@ -1,13 +1,13 @@
 -- The answers of the σ table and of the test of a list of bids, each as the record that its contract asks. Cited by the proofs of
 -- src/table.rt and src/choice.rt. Assumes nothing.
-use mathlib.Core.Path.{_≡_, refl, sym, ap, _∙_}
-use mathlib.Core.Bool.{Bool, true, false, _&&_, cond, and-false}
+use mathlib.Core.Path.{_≡_, ap, _∙_}
+use mathlib.Core.Bool.{Bool, true, false, cond, and-false}
 use mathlib.Core.List.{List, map}
-use Prim.Native.Nat.{ℕ, zero, suc, _+_, _^_, _≤_, _<_}
+use Prim.Native.Nat.{ℕ, _^_, _≤_, _<_}
 use native.Mathlib.Omega.{arith}
 use borrow.Author.Tests.{le-leb, lt-leb, lt-ltb, ne-eqb}
 use lib.Dec.{leb, eqb}
-use lib.ListN.{length, getD, take, replicate}
+use lib.ListN.{getD, take, replicate}
 use lib.Pow.{pow-mono}
 use Rattle.book.specs.Book.{client-of, clients, supplies}
 use Rattle.book.specs.Layout.{n-of, book-in}
@@ -15,7 +15,7 @@ use Rattle.book.specs.Questions.{book-refusal}
 use Rattle.market.specs.Combination.{is-combination}
 use Rattle.combinations.specs.Combinations.{market, worth}
 use Rattle.combinations.specs.Greatest.{greatest}
-use Rattle.combinations.specs.Surplus.{surplus, Surplus-is}
+use Rattle.combinations.specs.Surplus.{surplus}
 use Rattle.combinations.proofs.Books.{combinations-agree}
 use Rattle.combinations.proofs.Surplus.{surplus-is}
 use Rattle.winners.specs.Needs.{Listed}

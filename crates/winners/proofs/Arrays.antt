@@ -6,8 +6,8 @@ use Prim.Native.Nat.{ℕ, zero, suc, _+_, _-_, _≤_, _<_}
 use native.Mathlib.Nat.{le-of-suc-le-suc}
 use native.Mathlib.Decide.{decLt}
 use native.Mathlib.Omega.{arith}
-use lib.ListN.{length, getD, set, take, replicate, length-set, length-replicate, length-append, length-map, List·getD-append, List·getD-eq-default}
-use lib.Seq.{ext-getD, getD-set-same, getD-set-other, getD-take, length-take-le, getD-append-add}
+use lib.ListN.{length, getD, set, take, replicate, length-set, length-replicate, length-append, length-map, List·getD-eq-default}
+use lib.Seq.{ext-getD, getD-set-same, getD-set-other, getD-take, length-take-le}
 use Rattle.winners.specs.Chosen.{six}
 use Rattle.winners.proofs.Prefixes.{prefix-length, prefix-at}
 

@@ -1,34 +1,31 @@
--- The step of the loop over a client's choices: the bid that stands at the loop's place is open to the client or not, and the choice among
--- one bid more is what taking it makes of it. And the recursion at a client, in the code's numbers. Cited by the proofs of src/weigh.rt.
+-- The step of the search over a client's choices: the first bid, the choice among one bid more where it is taken and where it is left
+-- out, and the bids of others passed by. And the recursion at a client, in the code's numbers. Cited by the proof of src/search.rt.
 -- Assumes nothing.
 use mathlib.Core.Path.{_≡_, refl, sym, ap, ap₂, _∙_}
 use mathlib.Core.Bool.{Bool, true, false, _&&_, not, cond}
 use mathlib.Core.List.{List}
-use mathlib.Core.Logic.{⊎-elim}
-use Prim.Native.Nat.{ℕ, zero, suc, _+_, _*_, _-_, _≤_, _<_, max}
+use mathlib.Core.Logic.{_≢_, ⊎-elim}
+use Prim.Native.Nat.{ℕ, zero, suc, _+_, _-_, _≤_, _<_, max}
+use native.Mathlib.Nat.{max-eq-left}
 use native.Mathlib.Numerals.{add-one}
 use native.Mathlib.Omega.{arith}
-use borrow.Author.Tests.{eqb-true}
-use lib.Dec.{eqb}
-use Rattle.book.specs.Bytes.{byte, field, bytes-at}
-use Rattle.book.specs.Book.{Bid, Book, bid-at, client-of, standing}
-use Rattle.book.specs.Layout.{K-of, n-of, m-of, bids-from, bid-here, book-in}
-use Rattle.book.specs.Sound.{Sound}
-use Rattle.book.proofs.Places.{bid-at-stands, bids-count}
+use native.Mathlib.Decide.{ℕ-discrete}
+use borrow.Author.Tests.{eqb-true, ne-eqb, eq-eqb, ltb-false}
+use lib.Dec.{eqb, ltb}
+use Rattle.book.specs.Bytes.{bytes-at}
+use Rattle.book.specs.Book.{bid-at, client-of, standing}
+use Rattle.book.specs.Layout.{m-of, bid-here, book-in}
+use Rattle.book.proofs.Places.{bids-count}
 use Rattle.market.specs.Market.{Market, fits, less}
 use Rattle.market.specs.Greatest.{open-to, choose, best}
-use Rattle.market.proofs.Bools.{either}
+use Rattle.market.proofs.Bools.{either, and-parts}
 use Rattle.market.proofs.Choose.{choose-open, choose-shut}
-use Rattle.combinations.specs.Combinations.{market, amount-of}
+use Rattle.market.proofs.Prune.{max-lowered, choose-last-pass, choose-skip}
+use Rattle.combinations.specs.Combinations.{market}
 use Rattle.combinations.specs.Greatest.{without, discarded}
-use Rattle.winners.specs.Needs.{Weighing}
-
--- the bid that stands at a loop's place
-pub bid-here-at : (bs : List ℕ) (i k from at : ℕ) → k ≡ K-of bs → from ≡ bids-from bs → i < m-of bs → at ≡ from + i * (k + 5)
-    → bid-at (book-in bs) (i + 1) ≡ bid-here k at bs
-bid-here-at bs i k from at ek ef l ea =
-    bid-at-stands bs (i + 1) (omega arith) (omega arith)
-    ∙ ap₂ (λ (k p : ℕ). bid-here k p bs) (sym ek) (ap₂ (λ (a b : ℕ). a + (i + 1 - 1) * (b + 5)) (sym ef) (sym ek) ∙ ap (λ (j : ℕ). from + j * (k + 5)) (omega arith) ∙ sym ea)
+use Rattle.winners.specs.Needs.{Linked, Turn, stays, weight-in}
+use Rattle.winners.proofs.Placing.{hours-here}
+use Rattle.winners.proofs.Ceilings.{staying}
 
 -- the recursion at a client, for a count above 0
 pub best-at : (m : Market) (wt : ℕ → ℕ) (ahead c : ℕ) (ls : List ℕ) → 0 < ahead
@@ -37,70 +34,110 @@ unfolding best
 best-at m wt zero c ls l = absurd (omega arith)
 best-at m wt (suc k) c ls l = let e : suc k - 1 ≡ k = omega arith in rw (e, add-one c)
 
--- with the bid's owner for the client, a test says the same
-owner-same : (f : ℕ → Bool) (b c : ℕ) (t : Bool) → (eqb b c && (f b && t)) ≡ (eqb b c && (f c && t))
-owner-same f b c t =
-    ⊎-elim (λ (e : eqb b c ≡ true). ap (λ (x : ℕ). eqb b c && (f x && t)) (eqb-true b c e)) (λ (e : eqb b c ≡ false). rw e) (either (eqb b c))
+-- a test of a bid's owner fails where the client's own does
+gone-false : (f : ℕ → Bool) (b c : ℕ) (t : Bool) → f c ≡ false → (eqb b c && (f b && t)) ≡ false
+gone-false f b c t h =
+    ⊎-elim (λ (e : eqb b c ≡ true). let g : f b ≡ false = ap f (eqb-true b c e) ∙ h in rw (e, g)) (λ (e : eqb b c ≡ false). rw e) (either (eqb b c))
 
-module _ (bs : List ℕ) (d k at i c : ℕ) (ls : List ℕ) (e : bid-at (book-in bs) (i + 1) ≡ bid-here k at bs) where
-  owner-here : client-of (book-in bs) (i + 1) ≡ byte at bs
-  unfolding client-of bid-here
-  owner-here = ap (λ (x : Bid). x .client) e
+-- a client's loop is at its own bid, of a client that stays, or past the last
+pub record At-own (bs : List ℕ) (d m c i : ℕ) : Type 0 where
+  pub within : i ≤ m
+  pub own : i < m → client-of (book-in bs) (i + 1) ≡ c
+  pub on : i < m → stays (book-in bs) d c ≡ true
 
-  hours-here : bid-at (book-in bs) (i + 1) .hours ≡ bytes-at k (at + 1) bs
-  unfolding bid-here
-  hours-here = ap (λ (x : Bid). x .hours) e
+module _ (bs : List ℕ) (d m c : ℕ) where
+  pub at-own-first : (first i : ℕ) (on : Bool) → Linked (book-in bs) m c 0 first → (on ≡ true → stays (book-in bs) d c ≡ true)
+      → i ≡ cond on first m → At-own bs d m c i
+  at-own-first first i on h o e =
+      ⊎-elim
+      (λ (t : on ≡ true). let f : i ≡ first = rw t at e in rw f (record { within = h .last; own = h .own; on = λ l. o t }))
+      (λ (t : on ≡ false). let f : i ≡ m = rw t at e in record { within = omega arith; own = λ l. absurd (omega arith); on = λ l. absurd (omega arith) })
+      (either on)
 
-  amount-here : amount-of (book-in bs) (i + 1) ≡ field (at + (k + 1)) 4 bs
-  unfolding amount-of bid-here
-  amount-here = ap (λ (x : Bid). x .amount) e
+  pub at-own-next : (i j : ℕ) → i < m → At-own bs d m c i → Linked (book-in bs) m (client-of (book-in bs) (i + 1)) (i + 1) j → At-own bs d m c j
+  at-own-next i j l a h = record { within = h .last; own = λ k. h .own k ∙ a .own l; on = λ k. a .on l }
 
-  -- the code asks whether the client stays; the definition, whether the bid's owner does
-  open-is : (on : Bool) → on ≡ (standing (book-in bs) c && not (discarded d c))
-      → open-to (without (book-in bs) (discarded d)) c ls (i + 1) ≡ (eqb (byte at bs) c && (on && fits (bytes-at k (at + 1) bs) ls))
-  unfolding open-to without market
-  open-is on o = rw (owner-here, hours-here, o) (owner-same (λ x. standing (book-in bs) x && not (discarded d x)) (byte at bs) c _)
+  module _ (ls : List ℕ) where
+    -- another's bid is not open, and neither is one of a client that does not stay
+    shut-other : (i : ℕ) → client-of (book-in bs) (i + 1) ≢ c → open-to (staying bs d) c ls (suc i) ≡ false
+    unfolding open-to without market
+    shut-other i h = rw (ne-eqb (client-of (book-in bs) (suc i)) c (rw (add-one i) at h))
 
-  module _ (on t : Bool) (o : on ≡ (standing (book-in bs) c && not (discarded d c)))
-      (u : t ≡ (eqb (byte at bs) c && (on && fits (bytes-at k (at + 1) bs) ls))) (p top : ℕ) (f : List ℕ → ℕ)
-      (q : top ≡ choose (without (book-in bs) (discarded d)) (amount-of (book-in bs)) i c ls p f) where
-    opened : (v : Bool) → t ≡ v → open-to (without (book-in bs) (discarded d)) c ls (i + 1) ≡ v
-    opened v e′ = open-is on o ∙ sym u ∙ e′
+    shut-gone : stays (book-in bs) d c ≡ false → (i : ℕ) → open-to (staying bs d) c ls i ≡ false
+    unfolding open-to without market
+    shut-gone h i = gone-false (λ x. standing (book-in bs) x && not (discarded d x)) (client-of (book-in bs) i) c _ h
 
-    -- the bid is open: the choice is the larger of the choice so far and of taking it
-    pub choose-taken : (amount more now : ℕ) → t ≡ true → amount ≡ field (at + (k + 1)) 4 bs → more ≡ f (less ls (bytes-at k (at + 1) bs))
-        → now ≡ max top (amount + more) → now ≡ choose (without (book-in bs) (discarded d)) (amount-of (book-in bs)) (i + 1) c ls p f
-    unfolding without market
-    choose-taken amount more now e′ ea em en =
-        en ∙ ap₂ max q (ap₂ _+_ (ea ∙ sym amount-here) (em ∙ ap (λ (hs : List ℕ). f (less ls hs)) (sym hours-here)))
-        ∙ sym (choose-open (without (book-in bs) (discarded d)) (amount-of (book-in bs)) c ls p f i (opened true e′))
+    module _ (wt : ℕ → ℕ) (floor : ℕ) (f : List ℕ → ℕ) where
+      pub chosen-first : (first i : ℕ) (on : Bool) → Linked (book-in bs) m c 0 first
+          → (on ≡ false → (t : ℕ) → t < m → client-of (book-in bs) (t + 1) ≡ c → stays (book-in bs) d c ≡ false)
+          → i ≡ cond on first m → floor ≡ choose (staying bs d) wt i c ls floor f
+      unfolding choose
+      chosen-first first i on h o e =
+          sym (choose-skip (staying bs d) wt c ls f 0 i floor (omega arith)
+          (λ t _ l. ⊎-elim
+          (λ (y : on ≡ true). let q : i ≡ first = rw y at e in shut-other t (h .none t (omega arith) (omega arith)))
+          (λ (n : on ≡ false). let q : i ≡ m = rw n at e in
+          elim (ℕ-discrete (client-of (book-in bs) (t + 1)) c) [ yes y ↦ shut-gone (o n t (omega arith) y) (suc t) | no y ↦ shut-other t y ])
+          (either on)))
 
-    -- it is not: the choice stays
-    pub choose-passed : (now : ℕ) → t ≡ false → now ≡ top → now ≡ choose (without (book-in bs) (discarded d)) (amount-of (book-in bs)) (i + 1) c ls p f
-    choose-passed now e′ en = en ∙ q ∙ sym (choose-shut (without (book-in bs) (discarded d)) (amount-of (book-in bs)) c ls p f i (opened false e′))
+      pub chosen-next : (i j now : ℕ) → At-own bs d m c i → i < m → Linked (book-in bs) m (client-of (book-in bs) (i + 1)) (i + 1) j
+          → now ≡ choose (staying bs d) wt (i + 1) c ls floor f → now ≡ choose (staying bs d) wt j c ls floor f
+      chosen-next i j now a l h e =
+          e ∙ sym (choose-skip (staying bs d) wt c ls f (i + 1) j floor (h .after) (λ t k u. shut-other t (rw (a .own l) at (h .none t k u))))
 
--- what the recursion asks for the next client
-pub weighing-next : (bs : List ℕ) (k m from ahead c : ℕ) → 0 < ahead → Weighing bs k m from ahead c → Weighing bs k m from (ahead - 1) (c + 1)
-weighing-next bs k m from ahead c l w = record {
-  kinds = w .kinds;
-  kinds-few = w .kinds-few;
-  bids = w .bids;
-  bids-few = w .bids-few;
-  place = w .place;
-  place-near = w .place-near;
-  clients-few = omega (arith, w .clients-few);
-}
+      module _ (k at i : ℕ) (e : bid-at (book-in bs) (i + 1) ≡ bid-here k at bs) (l : i < m) (a : At-own bs d m c i) where
+        -- the client's own bid is open where it fits
+        open-own : open-to (staying bs d) c ls (i + 1) ≡ fits (bytes-at k (at + 1) bs) ls
+        unfolding open-to without market
+        open-own = rw (a .own l, eq-eqb c c refl, a .on l, hours-here bs k at i e)
 
--- and for the first client of a sound book
-pub weighing-start : (bs : List ℕ) (k m from n : ℕ) → Sound bs → k ≡ K-of bs → m ≡ m-of bs → from ≡ bids-from bs → n ≡ n-of bs
-    → Weighing bs k m from n 1
-unfolding bids-from
-weighing-start bs k m from n s ek em ef en = record {
-  kinds = ek;
-  kinds-few = omega (arith, s .K-high);
-  bids = em;
-  bids-few = omega (arith, s .m-high);
-  place = ef;
-  place-near = omega (arith, s .K-high, s .n-high);
-  clients-few = omega (arith, s .n-high);
-}
+        abbrev rest : ℕ
+        rest = f (less ls (bytes-at k (at + 1) bs))
+
+        taking : less ls (staying bs d .hours (i + 1)) ≡ less ls (bytes-at k (at + 1) bs)
+        unfolding without market
+        taking = ap (λ (hs : List ℕ). less ls hs) (hours-here bs k at i e)
+
+        module _ (top weight most : ℕ) (t : Bool) (q : top ≡ choose (staying bs d) wt i c ls floor f) (w : weight ≡ wt (i + 1))
+            (u : t ≡ (ltb top (weight + most) && fits (bytes-at k (at + 1) bs) ls)) where
+          -- the bid is taken, from a floor lowered by its weight
+          pub chosen-taken : (base more now : ℕ) → t ≡ true → base ≡ top - weight → more ≡ max base rest → now ≡ max top (weight + more)
+              → now ≡ choose (staying bs d) wt (i + 1) c ls floor f
+          chosen-taken base more now y eb em en =
+              en ∙ ap (λ (x : ℕ). max top (weight + x)) (em ∙ ap (λ (x : ℕ). max x rest) eb) ∙ max-lowered top weight rest
+              ∙ ap₂ max q (ap₂ _+_ w (ap f (sym taking)))
+              ∙ sym (choose-open (staying bs d) wt c ls floor f i (open-own ∙ and-parts (ltb top (weight + most)) _ (sym u ∙ y) .1))
+
+          -- it is left out: it does not fit, or cannot beat what is found
+          pub chosen-left : (now : ℕ) → t ≡ false → rest ≤ most → now ≡ top → now ≡ choose (staying bs d) wt (i + 1) c ls floor f
+          chosen-left now n b en =
+              ⊎-elim
+              (λ (y : fits (bytes-at k (at + 1) bs) ls ≡ true). let low : weight + most ≤ top = ltb-false _ _ (low-test (ltb top (weight + most)) _ y (sym u ∙ n)) in
+              en ∙ sym (max-eq-left {n = top} {m = weight + rest} (omega arith)) ∙ ap₂ max q (ap₂ _+_ w (ap f (sym taking)))
+              ∙ sym (choose-open (staying bs d) wt c ls floor f i (open-own ∙ y)))
+              (λ (z : fits (bytes-at k (at + 1) bs) ls ≡ false). en ∙ q ∙ sym (choose-shut (staying bs d) wt c ls floor f i (open-own ∙ z)))
+              (either (fits (bytes-at k (at + 1) bs) ls))
+            where
+              low-test : (x y : Bool) → y ≡ true → (x && y) ≡ false → x ≡ false
+              low-test true y e g = sym e ∙ g
+              low-test false y e g = refl
+
+module _ (bs ws : List ℕ) (d ahead c : ℕ) where
+  -- what the clients after c reach
+  abbrev pub reached : List ℕ → ℕ
+  reached rs = best (staying bs d) (weight-in ws) (ahead - 1) (c + 1) rs
+
+  -- all bids looked at, and passing last
+  pub search-done : (ls : List ℕ) (floor top i m r : ℕ) → 0 < ahead → m ≡ m-of bs → i ≡ m
+      → top ≡ choose (staying bs d) (weight-in ws) i c ls floor reached → r ≡ max top (reached ls)
+      → r ≡ max floor (best (staying bs d) (weight-in ws) ahead c ls)
+  unfolding without market
+  search-done ls floor top i m r l em ei et er =
+      er ∙ ap (λ (x : ℕ). max x (reached ls)) et ∙ choose-last-pass (staying bs d) (weight-in ws) c ls reached i floor (reached ls)
+      ∙ ap (λ (n : ℕ). max floor (choose (staying bs d) (weight-in ws) n c ls (reached ls) reached)) (ei ∙ em ∙ sym (bids-count bs))
+      ∙ ap (λ (v : ℕ). max floor v) (sym (best-at (staying bs d) (weight-in ws) ahead c ls l))
+
+-- one client fewer
+pub turn-next : (t ahead c floor low : ℕ) → ahead ≡ t → ahead ≢ 0 → Turn ahead c floor → low ≤ 30064771065 → (ahead - 1 < t) × Turn (ahead - 1) (c + 1) low
+turn-next t ahead c floor low e n w l =
+    (omega arith, record { from-one = omega arith; clients-few = omega (arith, w .clients-few); floor-few = l })

@@ -1,17 +1,14 @@
 -- The step of the test of a list of bids: one bid more follows or it does not; the sum of amounts and the list of clients for one bid
 -- more. Cited by the proofs of src/choice.rt. Assumes nothing.
-use mathlib.Core.Path.{_≡_, refl, sym, ap, ap₂, _∙_}
-use mathlib.Core.Bool.{Bool, true, false, _&&_, cond, and-assoc, and-false, and-true, false≢true}
-use mathlib.Core.List.{List, [], _∷_, _++_, map}
+use mathlib.Core.Path.{_≡_, refl, sym, ap, _∙_}
+use mathlib.Core.Bool.{Bool, true, false, _&&_, and-assoc, and-false, and-true}
+use mathlib.Core.List.{List, [], _∷_}
 use mathlib.Core.Logic.{⊎-elim}
-use Prim.Native.Nat.{ℕ, zero, suc, _+_, _≤_, _<_}
-use native.Mathlib.Nat.{add-assoc, add-zero, le-trans, le-of-eq, le-of-suc-le-suc}
-use native.Mathlib.Decide.{decLt}
-use native.Mathlib.Omega.{arith}
+use Prim.Native.Nat.{ℕ, _+_, _≤_}
+use native.Mathlib.Nat.{add-assoc, add-zero, le-trans, le-of-eq}
 use borrow.Author.Tests.{leb-true}
 use lib.Dec.{leb, ltb}
-use lib.ListN.{length, getD, take, set, replicate, length-append, length-replicate, length-set, length-map, List·getD-append, List·getD-eq-default}
-use lib.Seq.{getD-take, ext-getD, length-take-le, getD-append-add}
+use lib.ListN.{length}
 use Rattle.book.specs.Book.{Book, bid-at, client-of, clients, standing}
 use Rattle.book.specs.Bytes.{bytes-at}
 use Rattle.book.specs.Layout.{K-of, n-of, m-of, book-in}
@@ -21,8 +18,8 @@ use Rattle.market.specs.Market.{at, fits, less}
 use Rattle.market.specs.Combination.{rising-from}
 use Rattle.market.specs.Combination.{worth}
 use Rattle.market.proofs.Bools.{either, and-parts}
-use Rattle.combinations.specs.Combinations.{market, amount-of}
-use Rattle.winners.specs.Chosen.{follows, six}
+use Rattle.combinations.specs.Combinations.{market}
+use Rattle.winners.specs.Chosen.{follows}
 
 -- two tests that agree where an earlier one holds
 pub same-where : (a b f g : Bool) → (a ≡ true → f ≡ g) → ((a && b) && f) ≡ ((a && b) && g)

@@ -1,7 +1,7 @@
--- Who stays: the discard byte's bit by shift and mask, and what the two answers of src/weigh.rt's `stays` say. Assumes nothing.
-use mathlib.Core.Path.{_≡_, refl, sym, ap, _∙_}
+-- Who stays: the discard byte's bit by shift and mask, and what the two answers of src/setup.rt's `stays` say. Assumes nothing.
+use mathlib.Core.Path.{_≡_, sym, ap}
 use mathlib.Core.Bool.{Bool, true, false, _&&_, not, and-true, and-false}
-use Prim.Native.Nat.{ℕ, zero, suc, _+_, _-_, _/_, _^_, _≤_}
+use Prim.Native.Nat.{ℕ, zero, suc, _-_, _/_, _^_, _≤_}
 use native.Mathlib.Omega.{arith}
 use lib.Bits.{bitAnd}
 use lib.Dec.{eqb}

@@ -1,24 +1,20 @@
 -- The σ table: what one set's entry is, and a filled array as the table. Cited by the proofs of src/table.rt. Assumes nothing.
-use mathlib.Core.Path.{_≡_, refl, sym, ap, ap₂, fun-ext, _∙_}
-use mathlib.Core.Bool.{Bool, true, false, cond}
-use mathlib.Core.List.{List, [], _∷_}
-use mathlib.Core.Logic.{⊎-elim}
-use Prim.Native.Nat.{ℕ, zero, suc, _+_, _*_, _-_, _%_, _^_, _≤_, _<_}
-use native.Mathlib.Nat.{le-of-suc-le-suc, eq-or-lt-of-le}
+use mathlib.Core.Path.{_≡_, sym, ap, ap₂, fun-ext, _∙_}
+use mathlib.Core.Bool.{Bool, cond}
+use mathlib.Core.List.{List}
+use Prim.Native.Nat.{ℕ, suc, _*_, _-_, _%_, _^_, _≤_, _<_}
 use native.Mathlib.Decide.{decLt}
 use native.Mathlib.Omega.{arith}
 use borrow.Author.Tests.{lt-ltb, le-ltb}
 use lib.Dec.{ltb, lit<}
-use lib.ListN.{length, getD, take}
+use lib.ListN.{getD, take}
 use lib.Pow.{pow-pos, pow-mono, shl-exact}
 use lib.Seq.{ext-getD}
 use Rattle.sets.specs.Sets.{set-of}
 use Rattle.sets.proofs.Tables.{tabulate-at, tabulate-length}
 use Rattle.book.specs.Layout.{n-of, book-in}
-use Rattle.book.proofs.Places.{clients-count}
 use Rattle.combinations.specs.Greatest.{greatest, greatest-without, discarded}
 use Rattle.combinations.specs.Surplus.{picked, surplus}
-use Rattle.combinations.proofs.Surplus.{picked-true}
 use Rattle.combinations.proofs.Greatest.{greatest-all}
 use Rattle.winners.specs.Needs.{Listed}
 use Rattle.winners.specs.Surpluses.{surplus-table}

@@ -3,13 +3,13 @@
 use mathlib.Core.Path.{_≡_}
 use mathlib.Core.Bool.{Bool, true, _&&_, cond}
 use mathlib.Core.List.{List, [], _∷_}
-use Prim.Native.Nat.{ℕ, zero, suc, _^_, _≤_, _<_}
+use Prim.Native.Nat.{ℕ, _^_, _<_}
 use lib.Dec.{leb, ltb, eqb}
 use lib.ListN.{getD, take, replicate}
 use Rattle.sets.specs.Tables.{tabulate}
 use Rattle.book.specs.Layout.{n-of, book-in}
 use Rattle.book.specs.Questions.{book-refusal}
-use Rattle.combinations.specs.Greatest.{greatest, Greatest-value}
+use Rattle.combinations.specs.Greatest.{greatest}
 use Rattle.combinations.specs.Surplus.{surplus, Surplus-is}
 
 -- clients after c and up to n, strictly rising

@@ -6,9 +6,10 @@
 mod choice;
 mod hours;
 mod lists;
+mod search;
+mod setup;
 mod table;
 mod value;
-mod weigh;
 
 pub use choice::Chosen;
 pub use choice::combination;

@@ -1,11 +1,10 @@
 // v and σ of every set of a list of clients: questions 1 to 5 once, and each set weighed once.
+use crate::hours;
 use crate::lists;
 use crate::value;
 use book::layout;
 use book::questions;
 ghost use mathlib.Core.Path.{_≡_};
-ghost use mathlib.Core.Bool.{true};
-ghost use Prim.Native.Nat.{_-_, _≤_};
 ghost use Rattle.book.specs.Layout.{book-in};
 ghost use Rattle.combinations.specs.Greatest.{greatest};
 ghost use Rattle.winners.specs.Needs.{Listed};
@@ -16,13 +15,6 @@ pub struct SigmaTable {
     pub number: u32,
     pub value: u64,
     pub sigma: [u64; 64],
-}
-
-// The difference, but it stops at zero.
-fn excess(a: u64, b: u64) -> u64
-    ensures { λ r. ⌜ r ≡ a - b ⌝ }
-{
-    if b < a { a - b } else { 0 }
 }
 
 // σ by set number, for v the greatest value of a sound book and a good list of its clients.
@@ -37,7 +29,7 @@ fn table(book: &[u8], clients: [u8; 6], count: usize, v: u64) -> [u64; 64]
     let mut set: usize = 1;
     while set < end {
         let discard = lists::discard_of(clients, count, set, n);
-        sigma[set] = excess(v, value::value_without(book, discard));
+        sigma[set] = hours::excess(v, value::value_without(book, discard));
         set += 1;
     }
     sigma

@@ -1,5 +1,6 @@
 // The greatest value with clients discarded: questions 1 to 5, 16, and the value.
-use crate::weigh;
+use crate::search;
+use crate::setup;
 use book::entries;
 use book::layout;
 use book::questions;
@@ -39,7 +40,23 @@ pub(crate) fn value_without(book: &[u8], discard: u8) -> u64
     let n = layout::clients(book) as usize;
     let m = layout::bids(book) as usize;
     let from = layout::bids_place(book) as usize;
-    weigh::weigh(book, k, m, from, n, 1, discard, supply(book))
+    let weights = setup::weights(book, k, m, from);
+    let tops = setup::tops(book, k, m, from, discard, &weights);
+    let links = setup::links(book, k, m, from);
+    search::search_from(
+        book,
+        k,
+        m,
+        from,
+        n,
+        1,
+        discard,
+        supply(book),
+        0,
+        &tops,
+        &links,
+        &weights,
+    )
 }
 
 // A refusal has its number and no value.

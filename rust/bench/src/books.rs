@@ -25,14 +25,30 @@ fn up_to(rng: &mut Rng, most: u64) -> u64 {
     rng.bits() % (most + 1)
 }
 
-/// The natures of book that are measured, by name.
-pub fn natures(seed: u64) -> Vec<(&'static str, Vec<u8>)> {
+/// Hours of up to 30 of each kind, and an amount of the given form with a random part.
+fn random(seed: u64, supply: u8, amount: impl Fn([u8; 4], u64) -> u64) -> Vec<u8> {
     let mut a = Rng::new(seed);
     let mut b = Rng::new(seed + 1);
-    let mut some = |most: u64| [0; 4].map(|_| 1 + up_to(&mut a, most - 1) as u8);
-    let loose = full(200, || some(30), |_| 1 + up_to(&mut b, 999_999) as u32);
-    let mut a = Rng::new(seed + 2);
-    let mut b = Rng::new(seed + 3);
-    let tight = full(40, || [0; 4].map(|_| 1 + up_to(&mut a, 29) as u8), |_| 1 + up_to(&mut b, 999_999) as u32);
-    vec![("loose", loose), ("tight", tight)]
+    full(
+        supply,
+        || [0; 4].map(|_| 1 + up_to(&mut a, 29) as u8),
+        |hours| amount(hours, up_to(&mut b, 999_999)) as u32,
+    )
+}
+
+fn total(hours: [u8; 4]) -> u64 {
+    hours.iter().map(|&h| u64::from(h)).sum()
+}
+
+/// The natures of book that are measured, by name.
+pub fn natures(seed: u64) -> Vec<(&'static str, Vec<u8>)> {
+    vec![
+        ("loose", random(seed, 200, |_, r| 1 + r)),
+        ("half fits", random(seed + 2, 60, |_, r| 1 + r)),
+        ("near-ties", random(seed + 4, 60, |_, r| 500_000 + r % 5_000)),
+        ("tight", random(seed + 6, 40, |_, r| 1 + r)),
+        ("amounts follow hours", random(seed + 8, 60, |h, r| 5_000 * total(h) + r % 5_000)),
+        ("equal amounts", random(seed + 10, 60, |_, _| 500_000)),
+        ("none fits", random(seed + 12, 0, |_, r| 1 + r)),
+    ]
 }

@@ -1,21 +1,26 @@
 //! Times the proved library against Rust in one run, and prints our time over the other's.
 
 mod books;
+mod branch;
 mod plain;
+mod search;
 
 use std::hint::black_box;
 use std::time::{Duration, Instant};
 
-/// The least time of several turns.
+/// The least time for one piece of work, of several turns of about a hundredth of a second.
 fn least(turns: usize, mut work: impl FnMut() -> u64) -> Duration {
-    (0..turns)
-        .map(|_| {
-            let start = Instant::now();
+    let mut best = Duration::MAX;
+    for _ in 0..turns {
+        let start = Instant::now();
+        let mut times = 0;
+        while times == 0 || start.elapsed() < Duration::from_millis(10) {
             black_box(work());
-            start.elapsed()
-        })
-        .min()
-        .unwrap()
+            times += 1;
+        }
+        best = best.min(start.elapsed() / times);
+    }
+    best
 }
 
 fn all_sets(mut value: impl FnMut(u8) -> u64) -> u64 {
@@ -23,16 +28,35 @@ fn all_sets(mut value: impl FnMut(u8) -> u64) -> u64 {
 }
 
 fn main() {
-    println!("all 64 greatest values of a full book: our time over that of the plain recursion in Rust");
+    println!("All 64 greatest values of a full book: our time, and our time over that in Rust of the plain recursion, of the");
+    println!("same search and of a branch and bound. Ours judges the book at each call and the others do not; the time of");
+    println!("judging alone is that of 64 calls refused for a discarded client past the last, and `no judging` leaves it out.");
+    println!(
+        "{:22}{:>10}{:>10}{:>10}{:>10}{:>12}{:>10}",
+        "nature", "ours, us", "judging", "plain", "search", "no judging", "branch"
+    );
     for (name, book) in books::natures(1) {
         let ours = || all_sets(|d| u64::from(certifier::greatest_value(black_box(&book), d).value));
-        let theirs = || all_sets(|d| plain::greatest_value(black_box(&book), d));
-        assert_eq!(ours(), theirs());
-        let mut turns = [Duration::MAX; 2];
+        let judging = || all_sets(|_| u64::from(certifier::greatest_value(black_box(&book), 64).number));
+        let others = [plain::greatest_value, search::greatest_value, branch::greatest_value];
+        let (mut own, mut judged) = (Duration::MAX, Duration::MAX);
+        let mut theirs = [Duration::MAX; 3];
         for _ in 0..3 {
-            turns[0] = turns[0].min(least(2, ours));
-            turns[1] = turns[1].min(least(2, theirs));
+            own = own.min(least(3, ours));
+            judged = judged.min(least(3, judging));
+            for (time, other) in theirs.iter_mut().zip(others) {
+                let work = || all_sets(|d| other(black_box(&book), d));
+                assert_eq!(ours(), work());
+                *time = (*time).min(least(3, work));
+            }
         }
-        println!("{name}: {:.2}", turns[0].as_secs_f64() / turns[1].as_secs_f64());
+        let micros = |time: Duration| time.as_secs_f64() * 1e6;
+        let [plain, search, branch] = theirs.map(|time| micros(own) / micros(time));
+        let bare = micros(own.saturating_sub(judged)) / micros(theirs[1]);
+        println!(
+            "{name:22}{:>10.1}{:>10.1}{plain:>10.4}{search:>10.2}{bare:>12.2}{branch:>10.2}",
+            micros(own),
+            micros(judged)
+        );
     }
 }

@@ -5,7 +5,7 @@ use Prim.Native.Nat.{_-_, _≤_}
 use native.Mathlib.Nat.{le-antisymm}
 use lib.ListN.{length, getD}
 use Rattle.winners.proofs.Arrays.{Filled, filled-none, filled-next, six-done}
-use Rattle.book.specs.Book.{client-of, clients}
+use Rattle.book.specs.Book.{client-of}
 use Rattle.book.specs.Layout.{book-in}
 use Rattle.winners.proofs.choice.owners_of.Statement.{statement}
 use Rattle.winners.proofs.choice.owners_of.Tie as tie

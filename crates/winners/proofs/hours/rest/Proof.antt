@@ -1,51 +1,43 @@
--- `winners::hours::rest` meets its contract. The loop keeps what is left of the kinds passed. Assumes nothing.
+-- `winners::hours::rest` meets its contract. Assumes nothing.
 use borrow.Author.Needs.{needs}
-use mathlib.Core.Path.{_≡_, refl}
-use Prim.Native.Nat.{_-_, _≤_}
-use native.Mathlib.Nat.{le-antisymm}
-use lib.ListN.{length, take, length-set}
-use Rattle.book.specs.Bytes.{bytes-at}
-use Rattle.market.specs.Market.{less}
-use Rattle.winners.proofs.Rows.{rest-next}
+use mathlib.Core.Path.{_≡_}
+use Prim.Native.Nat.{ℕ, _-_}
+use native.Mathlib.Omega.{arith}
+use Rattle.winners.proofs.Rows.{rest-four}
 use Rattle.winners.proofs.hours.rest.Statement.{statement}
 use Rattle.winners.proofs.hours.rest.Tie as tie
 
-abbrev Inv-loop : tie.InvT-loop
-Inv-loop book k at left after₀ i₀ after i = (i ≤ k) × (take i after ≡ less (take i left) (bytes-at i at book)) × (length after ≡ 4) × (length left ≡ 4)
+-- a difference from a byte that is read
+lost : (a x y b : ℕ) → a ≡ x - y → y ≡ b → a ≡ x - b
+lost a x y b e f = omega arith
 
-abbrev μ-loop : tie.MeasureT-loop
-μ-loop book k at left after₀ i₀ after i = k - i
-
-loop-holds : tie.Need-loop-holds Inv-loop μ-loop
-unfolding less bytes-at
-loop-holds c = (search needs, refl, search needs, search needs)
-
-loop-again : tie.Need-loop-again Inv-loop μ-loop
-loop-again c =
-    let l = c .before .before .before .loop in
-    let a = c .before .before .before .before .before .args in (
-      search needs,
-      rest-next (a .book .now) (a .at) (l .i) (a .t4) (search needs) (l .after) _ _ (search needs) (c .minus .ensures) (c .before .byte-at .ensures) (l .inv .1),
-      simp length-set (l .inv .2),
-      search needs,
-    )
-
-returns : tie.Need-returns Inv-loop μ-loop
-returns c = rw (le-antisymm (c .loop-test .left) (c .before .loop .inv .0)) (c .before .loop .inv .1)
+returns : tie.Need-returns
+returns c =
+    let s = c .before .before .before .before .before .before .before .before .before in
+    let left = s .args .t4 in
+    rest-four (s .args .book .now) (s .args .k) (s .args .at) left _ _ _ _ (s .pre .kinds) (search needs)
+    (lost _ _ _ _ (c .before .before .before .before .before .before .minus .ensures) (c .before .before .before .before .before .before .before .byte-at .ensures))
+    (lost _ _ _ _ (c .before .before .before .before .minus2 .ensures) (c .before .before .before .before .before .byte-at2 .ensures))
+    (lost _ _ _ _ (c .before .before .minus3 .ensures) (c .before .before .before .byte-at3 .ensures))
+    (lost _ _ _ _ (c .minus4 .ensures) (c .before .byte-at4 .ensures))
 
 pub rest-spec : {M : Type 1} → statement M
 rest-spec =
     tie.close
     (tie.spec
-    Inv-loop
-    μ-loop
-    loop-holds
+    (λ c. search needs)
+    (λ c κs. search needs)
+    (λ c κs. search needs)
     (λ c. search needs)
     (λ c. search needs)
     (λ c κs. search needs)
     (λ c κs. search needs)
     (λ c. search needs)
     (λ c. search needs)
+    (λ c κs. search needs)
+    (λ c κs. search needs)
     (λ c. search needs)
-    loop-again
+    (λ c. search needs)
+    (λ c κs. search needs)
+    (λ c κs. search needs)
     returns)

@@ -1,6 +1,5 @@
 -- `winners::value::greatest_value` meets its contract. Assumes nothing.
 use borrow.Author.Needs.{needs}
-use Prim.Native.Nat.{_-_}
 use native.Mathlib.Omega.{arith}
 use Rattle.winners.proofs.Values.{refusal-none, worth-refused, worth-past, worth-found}
 use Rattle.book.proofs.Soundness.{sound}

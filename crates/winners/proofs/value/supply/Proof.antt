@@ -1,6 +1,5 @@
 -- `winners::value::supply` meets its contract. Assumes nothing.
 use borrow.Author.Needs.{needs}
-use Prim.Native.Nat.{_-_}
 use Rattle.winners.proofs.Supply.{four-supplies}
 use Rattle.winners.proofs.value.supply.Statement.{statement}
 use Rattle.winners.proofs.value.supply.Tie as tie

@@ -1,12 +1,11 @@
--- `winners::weigh::stays` meets its contract. Assumes nothing.
+-- `winners::setup::stays` meets its contract. Assumes nothing.
 use borrow.Author.Needs.{needs}
 use mathlib.Core.Path.{_∙_}
-use Prim.Native.Nat.{_-_}
 use Rattle.winners.proofs.Clients.{discarded-bit, stays-not, stays-if}
 use Rattle.book.specs.Book.{standing}
 use Rattle.book.specs.Layout.{book-in}
-use Rattle.winners.proofs.weigh.stays.Statement.{statement}
-use Rattle.winners.proofs.weigh.stays.Tie as tie
+use Rattle.winners.proofs.setup.stays.Statement.{statement}
+use Rattle.winners.proofs.setup.stays.Tie as tie
 
 returns : tie.Need-returns
 returns c =
