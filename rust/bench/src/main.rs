@@ -27,14 +27,15 @@ fn all_sets(mut value: impl FnMut(u8) -> u64) -> u64 {
     (0..64).map(|discard| value(discard)).sum()
 }
 
+fn over(ours: Duration, theirs: Duration) -> f64 {
+    ours.as_secs_f64() / theirs.as_secs_f64()
+}
+
 fn main() {
-    println!("All 64 greatest values of a full book: our time, and our time over that in Rust of the plain recursion, of the");
-    println!("same search and of a branch and bound. Ours judges the book at each call and the others do not; the time of");
-    println!("judging alone is that of 64 calls refused for a discarded client past the last, and `no judging` leaves it out.");
-    println!(
-        "{:22}{:>10}{:>10}{:>10}{:>10}{:>12}{:>10}",
-        "nature", "ours, us", "judging", "plain", "search", "no judging", "branch"
-    );
+    println!("all 64 greatest values of a full book: our time over that in Rust of the plain recursion, of the same search and");
+    println!("of a branch and bound. Ours judges the book at each call and the others do not: `judging` is the part of our time");
+    println!("that 64 calls refused at the last question take, and `no judging` our time over the same search without it");
+    println!("{:22}{:>10}{:>10}{:>10}{:>12}{:>10}", "nature", "plain", "search", "branch", "no judging", "judging");
     for (name, book) in books::natures(1) {
         let ours = || all_sets(|d| u64::from(certifier::greatest_value(black_box(&book), d).value));
         let judging = || all_sets(|_| u64::from(certifier::greatest_value(black_box(&book), 64).number));
@@ -50,13 +51,9 @@ fn main() {
                 *time = (*time).min(least(3, work));
             }
         }
-        let micros = |time: Duration| time.as_secs_f64() * 1e6;
-        let [plain, search, branch] = theirs.map(|time| micros(own) / micros(time));
-        let bare = micros(own.saturating_sub(judged)) / micros(theirs[1]);
-        println!(
-            "{name:22}{:>10.1}{:>10.1}{plain:>10.4}{search:>10.2}{bare:>12.2}{branch:>10.2}",
-            micros(own),
-            micros(judged)
-        );
+        let [plain, search, branch] = theirs.map(|time| over(own, time));
+        let bare = over(own.saturating_sub(judged), theirs[1]);
+        let part = over(judged, own);
+        println!("{name:22}{plain:>10.4}{search:>10.2}{branch:>10.2}{bare:>12.2}{part:>10.2}");
     }
 }
