@@ -2,3 +2,4 @@
 pub mod Books
 pub mod Greatest
 pub mod Surplus
+pub mod Refusals

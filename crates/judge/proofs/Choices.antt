@@ -23,7 +23,7 @@ use Rattle.book.proofs.Places.{clients-count}
 use Rattle.combinations.specs.Combinations.{market, Rising, worth}
 use Rattle.combinations.specs.Greatest.{greatest}
 use Rattle.combinations.specs.Surplus.{surplus}
-use Rattle.winners.specs.Chosen.{choice-good, choice-refusal, six, Chosen-is}
+use Rattle.choice.specs.Chosen.{choice-good, choice-refusal, six, Chosen-is}
 use Rattle.winners.specs.Surpluses.{rising-to, list-good, list-refusal, surplus-table, Surpluses-are}
 use Rattle.certificate.specs.Figures.{certificate}
 use Rattle.certificate.specs.declared.Figures.{Figures}

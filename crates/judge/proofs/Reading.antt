@@ -18,8 +18,8 @@ use Rattle.combinations.specs.Combinations.{amount-of}
 use Rattle.market.specs.Market.{at}
 use Rattle.certificate.specs.declared.Figures.{Figures}
 use Rattle.sheet.specs.Reading.{six-of}
-use Rattle.winners.proofs.Arrays.{Filled}
-use Rattle.winners.proofs.Prefixes.{prefix-length, prefix-at}
+use Rattle.sets.proofs.Filled.{Filled}
+use Rattle.sets.proofs.Prefixes.{prefix-length, prefix-at}
 use Rattle.demands.specs.Sheet.{Sheet}
 use Rattle.demands.specs.Input.{book, sheet, sheet-part}
 use Rattle.demands.specs.Winners.{win, reserves, rho}

@@ -31,7 +31,7 @@ pub(crate) fn number_of(input: &[u8], bids: [u8; 6], figures: Figures) -> u8
         return seven;
     }
     let w = figures.w as usize;
-    let choice = winners::combination(input, bids, w);
+    let choice = choice::combination(input, bids, w);
     if 0 < choice.number {
         return 8;
     }

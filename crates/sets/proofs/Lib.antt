@@ -3,3 +3,5 @@ pub mod Sums
 pub mod Members
 pub mod Sets
 pub mod Tables
+pub mod Filled
+pub mod Prefixes

@@ -43,7 +43,7 @@ fn print_table(s: &[u8]) {
 // The test of a combination: the first byte is the count, the next six are the bids.
 fn print_choice(s: &[u8]) {
     let count = bytes::byte_at(s, 0) as usize;
-    let choice = winners::combination(answer::after(s, 7), six(s), count);
+    let choice = choice::combination(answer::after(s, 7), six(s), count);
     print_next(choice.number as u64);
     print_next(choice.value);
     let clients = choice.clients;

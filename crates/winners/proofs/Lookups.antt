@@ -15,8 +15,8 @@ use Rattle.book.specs.Book.{Book, Bid, client-of, no-bid}
 use Rattle.book.specs.Layout.{m-of, book-in}
 use Rattle.book.proofs.Places.{bid-at-none, bid-at-zero}
 use Rattle.combinations.specs.Combinations.{amount-of}
-use Rattle.winners.specs.Needs.{Under, Linked, Links, Largest, Ceiling, stays, weight-in}
-use Rattle.winners.proofs.Arrays.{Filled, filled-none}
+use Rattle.winners.specs.Needs.{Under, Linked, Links, Largest, Topped, Ceiling, stays, weight-in}
+use Rattle.sets.proofs.Filled.{Filled, filled-none}
 
 -- an entry after a store: the stored one, or as it was
 set-cases : (P : ℕ → ℕ → Type 0) (xs : List ℕ) (p v : ℕ) → p < length xs → P p v → ((j : ℕ) → j ≢ p → P j (getD xs j 0))
@@ -98,14 +98,6 @@ module _ (b : Book) (m : ℕ) where
         | no o ↦ omega (arith, ap (λ (d : ℕ). getD xs d 0) e, h j (omega arith))
       ])
       (client-of b (j + 1)) refl
-
--- the sums from the last client back to client c, whose own is `sum`; only clients that are `on` count
-pub record Topped (on : ℕ → Bool) (most : List ℕ) (c : ℕ) (tops : List ℕ) (sum : ℕ) : Type 0 where
-  pub long : length tops ≡ 8
-  pub here : getD tops c 0 ≡ sum
-  pub falls : (j : ℕ) → c ≤ j → getD tops (j + 1) 0 ≤ getD tops j 0
-  pub only : (j : ℕ) → c ≤ j → getD tops (j + 1) 0 < getD tops j 0 → on j ≡ true
-  pub grows : (j : ℕ) → c ≤ j → j < 7 → on j ≡ true → getD most j 0 + getD tops (j + 1) 0 ≤ getD tops j 0
 
 pub topped-none : (on : ℕ → Bool) (most : List ℕ) → Topped on most 7 (replicate 8 0) 0
 topped-none on most =

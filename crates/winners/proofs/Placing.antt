@@ -1,18 +1,22 @@
 -- A bid at its place in the bytes, its weight in an array, and what a sound book gives of both. Cited by the proofs of src/setup.rt,
 -- src/search.rt and src/value.rt. Assumes nothing.
 use mathlib.Core.Path.{_≡_, sym, ap, ap₂, _∙_}
-use mathlib.Core.List.{List}
+use mathlib.Core.List.{List, [], _∷_}
 use Prim.Native.Nat.{ℕ, _+_, _*_, _-_, _≤_, _<_}
+use native.Mathlib.Nat.{mul-le-mul-right}
 use native.Mathlib.Numerals.{add-one}
 use native.Mathlib.Omega.{arith}
-use lib.ListN.{getD}
+use lib.ListN.{length, getD, take}
 use Rattle.book.specs.Bytes.{byte, field, bytes-at}
 use Rattle.book.specs.Book.{Bid, bid-at, client-of}
 use Rattle.book.specs.Layout.{K-of, m-of, bids-from, bid-here, book-in}
+use Rattle.book.specs.Questions.{book-formula}
 use Rattle.book.specs.Sound.{Sound}
 use Rattle.book.proofs.Places.{bid-at-stands}
+use Rattle.market.specs.Market.{fits, less}
 use Rattle.combinations.specs.Combinations.{amount-of}
-use Rattle.winners.specs.Needs.{Placed, Owned, weight-in}
+use Rattle.hours.proofs.Fours.{bytes-take, less-take}
+use Rattle.winners.specs.Needs.{Row, Placed, Owned, Under, Links, Largest, Prepared, weight-in}
 
 -- the bid that stands at a loop's place
 pub bid-here-at : (bs : List ℕ) (i k from at : ℕ) → k ≡ K-of bs → from ≡ bids-from bs → i < m-of bs → at ≡ from + i * (k + 5)
@@ -41,7 +45,7 @@ weight-at ws i = rw (add-one i)
 
 -- the counts of a sound book, and its bids' clients
 pub placed-sound : (bs : List ℕ) (k m from : ℕ) → Sound bs → k ≡ K-of bs → m ≡ m-of bs → from ≡ bids-from bs → Placed bs k m from
-unfolding bids-from
+unfolding bids-from book-formula
 placed-sound bs k m from s ek em ef = record {
   kinds = ek;
   kinds-few = omega (arith, s .K-high);
@@ -49,7 +53,32 @@ placed-sound bs k m from s ek em ef = record {
   bids-few = omega (arith, s .m-high);
   place = ef;
   place-near = omega (arith, s .K-high, s .n-high);
+  inside = rw (ek, em, ef) (omega (arith, s .whole, s .formula));
 }
+
+-- a bid of the book stands inside its bytes
+pub bid-inside : (bs : List ℕ) (k m from i : ℕ) → Placed bs k m from → i < m → from + i * (k + 5) + (k + 5) ≤ length bs
+bid-inside bs k m from i p l = omega (arith, p .inside, mul-le-mul-right (k + 5) l)
+
+-- and so four bytes of its hours can be read
+pub row-inside : (bs : List ℕ) (k m from i at : ℕ) → Placed bs k m from → i < m → at ≡ from + i * (k + 5) → Row bs k (at + 1)
+row-inside bs k m from i at p l e = record { kinds = p .kinds-few; inside = omega (arith, bid-inside bs k m from i p l) }
+
+-- four bytes, read one by one
+pub four-bytes : (bs : List ℕ) (at : ℕ) → (byte at bs ∷ byte (at + 1) bs ∷ byte (at + 2) bs ∷ byte (at + 3) bs ∷ []) ≡ bytes-at 4 at bs
+unfolding bytes-at
+four-bytes bs at =
+    let two : at + 1 + 1 ≡ at + 2 = omega arith in
+    let three : at + 2 + 1 ≡ at + 3 = omega arith in
+    rw (two, three)
+
+-- the four bytes read, cut to the book's kinds: the test of the hours, and what is left
+pub fits-here : (bs : List ℕ) (k at : ℕ) (row ls : List ℕ) → k ≤ 4 → row ≡ bytes-at 4 at bs → fits (take k row) ls ≡ fits (bytes-at k at bs) ls
+fits-here bs k at row ls h e = ap (λ (hs : List ℕ). fits hs ls) (ap (λ (xs : List ℕ). take k xs) e ∙ bytes-take k 4 at bs h)
+
+pub rest-here : (bs : List ℕ) (k at : ℕ) (row ls after : List ℕ) → k ≤ 4 → row ≡ bytes-at 4 at bs → after ≡ less ls row → take k after ≡ less (take k ls) (bytes-at k at bs)
+rest-here bs k at row ls after h e r =
+    ap (λ (xs : List ℕ). take k xs) r ∙ less-take k ls row ∙ ap (λ (hs : List ℕ). less (take k ls) hs) (ap (λ (xs : List ℕ). take k xs) e ∙ bytes-take k 4 at bs h)
 
 pub owned-sound : (bs : List ℕ) → Sound bs → Owned bs
 owned-sound bs s i l = (s .client-low (i + 1) (omega arith) (omega arith), omega (arith, s .client-high (i + 1) (omega arith) (omega arith), s .n-high))
@@ -59,3 +88,14 @@ pub weights-some : (bs ws : List ℕ) (m : ℕ) → Sound bs → m ≡ m-of bs �
 unfolding amount-of
 weights-some bs ws m s e w i l =
     omega (arith, weight-at ws i, ap (λ (f : ℕ → ℕ). f (i + 1)) w, s .amount-low (i + 1) (omega arith) (omega arith))
+
+-- what is made once for a call
+pub prepared-sound : (bs ws links most : List ℕ) (m : ℕ) → m ≡ m-of bs → weight-in ws ≡ amount-of (book-in bs) → Under 4294967295 ws → Links (book-in bs) m 0 links
+    → Largest (book-in bs) ws m most → Under 4294967295 most → Prepared bs ws links most
+prepared-sound bs ws links most m e w u l h v = record {
+  weighed = w;
+  weights-few = u;
+  linked = rw (← e) l;
+  largest = λ j k. h j (omega arith);
+  most-few = v;
+}

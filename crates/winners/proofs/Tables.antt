@@ -18,7 +18,7 @@ use Rattle.combinations.specs.Surplus.{picked, surplus}
 use Rattle.combinations.proofs.Greatest.{greatest-all}
 use Rattle.winners.specs.Needs.{Listed}
 use Rattle.winners.specs.Surpluses.{surplus-table}
-use Rattle.winners.proofs.Arrays.{Filled}
+use Rattle.sets.proofs.Filled.{Filled}
 use Rattle.winners.proofs.Picks.{byte-picks, picked-none}
 
 -- 1 << w as the number of sets

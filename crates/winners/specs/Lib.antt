@@ -1,4 +1,3 @@
 pub mod Worth
 pub mod Surpluses
-pub mod Chosen
 pub mod Needs

@@ -2,19 +2,20 @@
 use mathlib.Core.Path.{_≡_}
 use mathlib.Core.List.{List}
 use mathlib.Core.Logic.{_≢_}
-use Prim.Native.Nat.{ℕ, zero, suc, _+_, _≤_, _<_}
+use Prim.Native.Nat.{ℕ, zero, suc, _+_, _*_, _≤_, _<_}
 use mathlib.Core.Bool.{Bool, true, _&&_, not}
-use lib.ListN.{getD, take}
+use lib.ListN.{length, getD, take}
 use Rattle.book.specs.Book.{Book, client-of, standing}
 use Rattle.book.specs.Layout.{K-of, n-of, m-of, bids-from, book-in}
 use Rattle.book.specs.Sound.{Sound}
+use Rattle.combinations.specs.Combinations.{amount-of}
 use Rattle.combinations.specs.Greatest.{discarded}
 use Rattle.winners.specs.Surpluses.{rising-to}
 
--- k kinds, whose hours stand at a place
-pub record Row (k at : ℕ) : Type 0 where
+-- the hours of k kinds stand at a place, and four bytes are there
+pub record Row (bs : List ℕ) (k at : ℕ) : Type 0 where
   pub kinds : k ≤ 4
-  pub place : at ≤ 9300000000000000000
+  pub inside : at + 4 ≤ length bs
 
 -- k, m and `from` are the book's counts and the place of its first bid
 pub record Placed (bs : List ℕ) (k m from : ℕ) : Type 0 where
@@ -24,6 +25,7 @@ pub record Placed (bs : List ℕ) (k m from : ℕ) : Type 0 where
   pub bids-few : m ≤ 48
   pub place : from ≡ bids-from bs
   pub place-near : from ≤ 1000
+  pub inside : from + m * (k + 5) ≤ length bs
 
 -- each bid's client is one of the first six
 abbrev pub Owned : (bs : List ℕ) → Type 0
@@ -58,12 +60,28 @@ Largest b ws i xs = (j : ℕ) → j < i → getD ws j 0 ≤ getD xs (client-of b
 abbrev pub stays : Book → (discard client : ℕ) → Bool
 stays b d c = standing b c && not (discarded d c)
 
+-- the sums from the last client back to client c, whose own is `sum`; only clients that are `on` count
+pub record Topped (on : ℕ → Bool) (most : List ℕ) (c : ℕ) (tops : List ℕ) (sum : ℕ) : Type 0 where
+  pub long : length tops ≡ 8
+  pub here : getD tops c 0 ≡ sum
+  pub falls : (j : ℕ) → c ≤ j → getD tops (j + 1) 0 ≤ getD tops j 0
+  pub only : (j : ℕ) → c ≤ j → getD tops (j + 1) 0 < getD tops j 0 → on j ≡ true
+  pub grows : (j : ℕ) → c ≤ j → j < 7 → on j ≡ true → getD most j 0 + getD tops (j + 1) 0 ≤ getD tops j 0
+
 -- the entries of an array do not rise from client 1 on, fall only at clients that stay, and there by no less than the weight of each bid
 pub record Ceiling (b : Book) (discard : ℕ) (weights : List ℕ) (m : ℕ) (tops : List ℕ) : Type 0 where
   pub falls : (c : ℕ) → 1 ≤ c → getD tops (c + 1) 0 ≤ getD tops c 0
   pub only : (c : ℕ) → 1 ≤ c → getD tops (c + 1) 0 < getD tops c 0 → stays b discard c ≡ true
   pub covers : (i : ℕ) → i < m → stays b discard (client-of b (i + 1)) ≡ true
       → getD weights i 0 + getD tops (client-of b (i + 1) + 1) 0 ≤ getD tops (client-of b (i + 1)) 0
+
+-- what is made once for a call: the amounts for weights, links, and the largest weight of each client
+pub record Prepared (bs weights links most : List ℕ) : Type 0 where
+  pub weighed : weight-in weights ≡ amount-of (book-in bs)
+  pub weights-few : Under 4294967295 weights
+  pub linked : Links (book-in bs) (m-of bs) 0 links
+  pub largest : Largest (book-in bs) weights (m-of bs) most
+  pub most-few : Under 4294967295 most
 
 -- what the search looks up
 pub record Ready (bs : List ℕ) (discard m : ℕ) (tops links weights : List ℕ) : Type 0 where
@@ -84,11 +102,3 @@ pub record Listed (bs clients : List ℕ) (count : ℕ) : Type 0 where
   pub sound : Sound bs
   pub few : count ≤ 6
   pub rising : rising-to (n-of bs) 0 (take count clients) ≡ true
-
--- a sound book, at most six bids, and its counts
-pub record Choosing (bs : List ℕ) (count k m n : ℕ) : Type 0 where
-  pub sound : Sound bs
-  pub few : count ≤ 6
-  pub kinds : k ≡ K-of bs
-  pub bids : m ≡ m-of bs
-  pub clients : n ≡ n-of bs

@@ -1,18 +1,15 @@
 // Layer 2: weighing combinations, over the bytes of a book.
 //
-// What a client may cite: `greatest_value`, with clients discarded; `surpluses`, σ of every set of a list of clients; `combination`, whether
-// bids are a combination by rising client, with their value and clients. Each takes any bytes, asks nothing of its caller, and its
-// contract gives every field of its answer as a value (specs/).
-mod choice;
-mod hours;
+// What a client may cite: `greatest_value`, with clients discarded; `surpluses`, σ of every set of a list of clients. Each takes any bytes,
+// asks nothing of its caller, and its contract gives every field of its answer as a value (specs/).
 mod lists;
+mod numbers;
+mod places;
 mod search;
 mod setup;
 mod table;
 mod value;
 
-pub use choice::Chosen;
-pub use choice::combination;
 pub use table::SigmaTable;
 pub use table::surpluses;
 pub use value::Worth;

@@ -1,7 +1,7 @@
 // The greatest value by a search on the clients left, which fall by one at each call. It leaves out what cannot beat the floor, the
 // value that is already found: by the ceilings of the clients left.
-use crate::hours;
-use crate::setup;
+use crate::numbers;
+use crate::places;
 ghost use mathlib.Core.Path.{_≡_};
 ghost use mathlib.Core.Bool.{_&&_, cond};
 ghost use Prim.Native.Nat.{_≤_, max};
@@ -30,11 +30,11 @@ fn beats(most: u64, top: u64) -> bool
 
 // Whether a bid can raise the best, by its weight and the ceiling of the clients after it, and fits what is left.
 fn may_raise(book: &[u8], k: usize, at: usize, left: [u8; 4], top: u64, most: u64) -> bool
-    requires { ⌜ Row k at ⌝ }
+    requires { ⌜ Row (now book) k at ⌝ }
     ensures { λ r. ⌜ r ≡ (ltb top most && fits (bytes-at k at (now (book .entry))) (take k left)) ⌝ }
 {
     if beats(most, top) {
-        return hours::fit(book, k, at, left);
+        return hours::fit(k, places::row(book, at), left);
     }
     false
 }
@@ -70,10 +70,10 @@ pub(crate) fn search_from(
     let mut i = first_own(rest < tops[c], m, links[48 + c]);
     while i < m {
         let weight = weights[i];
-        let at = setup::place(k, from, i) + 1;
+        let at = places::place(k, from, i) + 1;
         if may_raise(book, k, at, left, top, weight + rest) {
-            let after = hours::rest(book, k, at, left);
-            let base = hours::excess(top, weight);
+            let after = hours::rest(places::row(book, at), left);
+            let base = numbers::excess(top, weight);
             let more = search_from(
                 book,
                 k,
@@ -88,7 +88,7 @@ pub(crate) fn search_from(
                 links,
                 weights,
             );
-            top = hours::larger(top, weight + more);
+            top = numbers::larger(top, weight + more);
         }
         i = links[i];
     }

@@ -1,33 +1,17 @@
 // What the search looks up, made once for a call: the weight of each bid, links from bid to bid of a client, and ceilings.
-use crate::hours;
+use crate::numbers;
+use crate::places;
 use book::bytes;
 use book::entries;
 ghost use mathlib.Core.Path.{_≡_};
 ghost use mathlib.Core.Bool.{_&&_, not, cond};
-ghost use Prim.Native.Nat.{_+_, _*_, _≤_, _<_};
-ghost use Rattle.book.specs.Book.{client-of, standing};
+ghost use Prim.Native.Nat.{_≤_};
+ghost use lib.ListN.{getD};
+ghost use Rattle.book.specs.Book.{standing};
 ghost use Rattle.book.specs.Layout.{book-in};
 ghost use Rattle.combinations.specs.Combinations.{amount-of};
 ghost use Rattle.combinations.specs.Greatest.{discarded};
-ghost use Rattle.winners.specs.Needs.{Placed, Under, Owned, Links, Largest, Ceiling, weight-in};
-
-// Where a bid stands; bids are numbered from 0 here.
-pub(crate) fn place(k: usize, from: usize, i: usize) -> usize
-    requires { ⌜ (k ≤ 4) × (i ≤ 48) × (from ≤ 1000) ⌝ }
-    ensures { λ r. ⌜ (r ≡ from + i * (k + 5)) × (r ≤ 2000) ⌝ }
-{
-    from + i * (k + 5)
-}
-
-// Whose a bid is; bids are numbered from 0 here too.
-fn owner(book: &[u8], k: usize, m: usize, from: usize, i: usize) -> usize
-    requires { ⌜ Placed (now book) k m from ⌝ }
-    requires { ⌜ Owned (now book) ⌝ }
-    requires { ⌜ i < m ⌝ }
-    ensures { λ r. ⌜ (r ≡ client-of (book-in (now (book .entry))) (i + 1)) × (r ≤ 6) ⌝ }
-{
-    bytes::byte_at(book, place(k, from, i)) as usize
-}
+ghost use Rattle.winners.specs.Needs.{Placed, Under, Owned, Links, Largest, Topped, stays, weight-in};
 
 // The weight of each bid: its amount.
 pub(crate) fn weights(book: &[u8], k: usize, m: usize, from: usize) -> [u64; 48]
@@ -38,7 +22,7 @@ pub(crate) fn weights(book: &[u8], k: usize, m: usize, from: usize) -> [u64; 48]
     let mut weights = [0u64; 48];
     let mut i: usize = 0;
     while i < m {
-        weights[i] = bytes::u32_at(book, place(k, from, i) + (k + 1)) as u64;
+        weights[i] = bytes::u32_at(book, places::place(k, from, i) + (k + 1)) as u64;
         i += 1;
     }
     weights
@@ -54,7 +38,7 @@ pub(crate) fn links(book: &[u8], k: usize, m: usize, from: usize) -> [usize; 56]
     let mut i = m;
     while 0 < i {
         i = i - 1;
-        let client = owner(book, k, m, from, i);
+        let client = places::owner(book, k, m, from, i);
         links[i] = links[48 + client];
         links[48 + client] = i;
     }
@@ -62,7 +46,7 @@ pub(crate) fn links(book: &[u8], k: usize, m: usize, from: usize) -> [usize; 56]
 }
 
 // The largest weight among each client's bids.
-fn largest(book: &[u8], k: usize, m: usize, from: usize, weights: &[u64; 48]) -> [u64; 7]
+pub(crate) fn largest(book: &[u8], k: usize, m: usize, from: usize, weights: &[u64; 48]) -> [u64; 7]
     requires { ⌜ Placed (now book) k m from ⌝ }
     requires { ⌜ Owned (now book) ⌝ }
     requires { ⌜ Under 4294967295 (now weights) ⌝ }
@@ -72,17 +56,17 @@ fn largest(book: &[u8], k: usize, m: usize, from: usize, weights: &[u64; 48]) ->
     let mut most = [0u64; 7];
     let mut i: usize = 0;
     while i < m {
-        let client = owner(book, k, m, from, i);
-        most[client] = hours::larger(most[client], weights[i]);
+        let client = places::owner(book, k, m, from, i);
+        most[client] = numbers::larger(most[client], weights[i]);
         i += 1;
     }
     most
 }
 
 // Whether a client stands and is not discarded; bit 0 of the discard byte is client 1.
-fn stays(book: &[u8], client: usize, discard: u8) -> bool
+fn does_stay(book: &[u8], client: usize, discard: u8) -> bool
     requires { ⌜ (1 ≤ client) × (client ≤ 8) ⌝ }
-    ensures { λ r. ⌜ r ≡ (standing (book-in (now (book .entry))) client && not (discarded discard client)) ⌝ }
+    ensures { λ r. ⌜ r ≡ stays (book-in (now (book .entry))) discard client ⌝ }
 {
     let out = (discard >> (client - 1)) & 1 == 1;
     if out {
@@ -100,27 +84,17 @@ fn share(on: bool, value: u64) -> u64
 }
 
 // For each client the sum of the largest weights of the clients that stay, from it on.
-pub(crate) fn tops(
-    book: &[u8],
-    k: usize,
-    m: usize,
-    from: usize,
-    discard: u8,
-    weights: &[u64; 48],
-) -> [u64; 8]
-    requires { ⌜ Placed (now book) k m from ⌝ }
-    requires { ⌜ Owned (now book) ⌝ }
-    requires { ⌜ Under 4294967295 (now weights) ⌝ }
-    ensures { λ r. ⌜ Ceiling (book-in (now (book .entry))) discard (now (weights .entry)) m r ⌝ }
+pub(crate) fn tops(book: &[u8], discard: u8, most: &[u64; 7]) -> [u64; 8]
+    requires { ⌜ Under 4294967295 (now most) ⌝ }
+    ensures { λ r. ⌜ Topped (stays (book-in (now (book .entry))) discard) (now (most .entry)) 1 r (getD r 1 0) ⌝ }
     ensures { λ r. ⌜ Under 30064771065 r ⌝ }
 {
-    let most = largest(book, k, m, from, weights);
     let mut tops = [0u64; 8];
     let mut sum: u64 = 0;
     let mut c: usize = 7;
     while 1 < c {
         c = c - 1;
-        sum = sum + share(stays(book, c, discard), most[c]);
+        sum = sum + share(does_stay(book, c, discard), most[c]);
         tops[c] = sum;
     }
     tops

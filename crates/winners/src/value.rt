@@ -1,16 +1,14 @@
 // The greatest value with clients discarded: questions 1 to 5, 16, and the value.
 use crate::search;
 use crate::setup;
-use book::entries;
 use book::layout;
 use book::questions;
 ghost use mathlib.Core.Path.{_≡_};
-ghost use Prim.Native.Nat.{_≤_, _<_};
-ghost use lib.ListN.{take};
-ghost use Rattle.book.specs.Book.{supplies};
-ghost use Rattle.book.specs.Layout.{K-of, book-in};
+ghost use Prim.Native.Nat.{_≤_};
+ghost use Rattle.book.specs.Layout.{book-in};
 ghost use Rattle.book.specs.Sound.{Sound};
 ghost use Rattle.combinations.specs.Greatest.{greatest};
+ghost use Rattle.winners.specs.Needs.{Prepared};
 ghost use Rattle.winners.specs.Worth.{Worth-is};
 
 #[repr(C)]
@@ -19,30 +17,24 @@ pub struct Worth {
     pub value: u32,
 }
 
-// The supply of each kind; 0 past the last.
-pub(crate) fn supply(book: &[u8]) -> [u8; 4]
-    requires { ⌜ K-of (now book) ≤ 4 ⌝ }
-    ensures { λ r. ⌜ take (K-of (now (book .entry))) r ≡ supplies (book-in (now (book .entry))) ⌝ }
-{
-    let a = entries::supply(book, 0);
-    let b = entries::supply(book, 1);
-    let c = entries::supply(book, 2);
-    let d = entries::supply(book, 3);
-    [a, b, c, d]
-}
-
-// The greatest value of a sound book.
-pub(crate) fn value_without(book: &[u8], discard: u8) -> u64
+// The greatest value of a sound book, by what the search looks up.
+pub(crate) fn value_by(
+    book: &[u8],
+    discard: u8,
+    weights: &[u64; 48],
+    links: &[usize; 56],
+    most: &[u64; 7],
+) -> u64
     requires { ⌜ Sound (now book) ⌝ }
+    requires { ⌜ Prepared (now book) (now weights) (now links) (now most) ⌝ }
     ensures { λ r. ⌜ (r ≡ greatest (book-in (now (book .entry))) discard) × (r ≤ 6000000) ⌝ }
 {
     let k = layout::kinds(book) as usize;
     let n = layout::clients(book) as usize;
     let m = layout::bids(book) as usize;
     let from = layout::bids_place(book) as usize;
-    let weights = setup::weights(book, k, m, from);
-    let tops = setup::tops(book, k, m, from, discard, &weights);
-    let links = setup::links(book, k, m, from);
+    let left = hours::supply(book);
+    let tops = setup::tops(book, discard, most);
     search::search_from(
         book,
         k,
@@ -51,12 +43,26 @@ pub(crate) fn value_without(book: &[u8], discard: u8) -> u64
         n,
         1,
         discard,
-        supply(book),
+        left,
         0,
         &tops,
-        &links,
-        &weights,
+        links,
+        weights,
     )
+}
+
+// The greatest value of a sound book.
+pub(crate) fn value_without(book: &[u8], discard: u8) -> u64
+    requires { ⌜ Sound (now book) ⌝ }
+    ensures { λ r. ⌜ (r ≡ greatest (book-in (now (book .entry))) discard) × (r ≤ 6000000) ⌝ }
+{
+    let k = layout::kinds(book) as usize;
+    let m = layout::bids(book) as usize;
+    let from = layout::bids_place(book) as usize;
+    let weights = setup::weights(book, k, m, from);
+    let links = setup::links(book, k, m, from);
+    let most = setup::largest(book, k, m, from, &weights);
+    value_by(book, discard, &weights, &links, &most)
 }
 
 // A refusal has its number and no value.

@@ -6,7 +6,7 @@ use native.Mathlib.Omega.{arith}
 use lib.ListN.{length}
 use Rattle.judge.proofs.Judging.{judgement, refused-book, refused-form, refused-sheet, accepted-sheet}
 use Rattle.judge.proofs.Parts.{form-no, form-yes, accepted-q}
-use Rattle.winners.proofs.Values.{refusal-none}
+use Rattle.combinations.proofs.Refusals.{refusal-none}
 use Rattle.book.proofs.Soundness.{sound}
 use Rattle.judge.proofs.judge_sheet.Statement.{statement}
 use Rattle.judge.proofs.judge_sheet.Tie as tie

@@ -5,7 +5,7 @@ use Prim.Native.Nat.{_*_, _-_, _≤_}
 use native.Mathlib.Omega.{arith}
 use native.Mathlib.Nat.{le-antisymm}
 use lib.ListN.{length}
-use Rattle.winners.proofs.Arrays.{Filled, filled-none, filled-next}
+use Rattle.sets.proofs.Filled.{Filled, filled-none, filled-next}
 use Rattle.book.specs.Layout.{book-in}
 use Rattle.demands.specs.Winners.{win}
 use Rattle.combinations.specs.Combinations.{amount-of}

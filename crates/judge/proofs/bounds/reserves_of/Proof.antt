@@ -4,7 +4,7 @@ use mathlib.Core.Path.{_≡_, ap₂, _∙_}
 use Prim.Native.Nat.{ℕ, _-_, _≤_}
 use native.Mathlib.Nat.{le-antisymm}
 use lib.ListN.{length}
-use Rattle.winners.proofs.Arrays.{Filled, filled-none, filled-next}
+use Rattle.sets.proofs.Filled.{Filled, filled-none, filled-next}
 use Rattle.book.specs.Layout.{book-in}
 use Rattle.demands.specs.Winners.{win, reserves, rho}
 use Rattle.combinations.specs.Combinations.{amount-of}

@@ -6,7 +6,7 @@ use Prim.Native.Nat.{_-_, _≤_}
 use native.Mathlib.Nat.{le-antisymm}
 use lib.ListN.{length, take, set}
 use lib.Dec.{eqb}
-use Rattle.winners.proofs.Prefixes.{prefix-length, prefix-at}
+use Rattle.sets.proofs.Prefixes.{prefix-length, prefix-at}
 use Rattle.winners.proofs.Picks.{any-next, picks-next, picks-done}
 use Rattle.market.specs.Market.{at}
 use Rattle.combinations.specs.Surplus.{any}

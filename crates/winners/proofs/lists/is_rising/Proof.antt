@@ -6,7 +6,8 @@ use Prim.Native.Nat.{_-_, _≤_}
 use lib.ListN.{length, take}
 use Rattle.winners.specs.Surpluses.{rising-to}
 use lib.ListN.{drop}
-use Rattle.winners.proofs.Prefixes.{prefix-next, prefix-done, rising-next, rising-done}
+use Rattle.sets.proofs.Prefixes.{prefix-next, prefix-done}
+use Rattle.winners.proofs.Rising.{rising-next, rising-done}
 use Rattle.winners.proofs.lists.is_rising.Statement.{statement}
 use Rattle.winners.proofs.lists.is_rising.Tie as tie
 

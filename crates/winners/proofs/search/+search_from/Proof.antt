@@ -15,7 +15,7 @@ use Rattle.book.specs.Layout.{book-in}
 use Rattle.market.specs.Market.{less}
 use Rattle.market.specs.Greatest.{choose, best}
 use Rattle.winners.specs.Needs.{stays, weight-in}
-use Rattle.winners.proofs.Placing.{bid-here-at, weight-at}
+use Rattle.winners.proofs.Placing.{bid-here-at, weight-at, row-inside, rest-here}
 use Rattle.winners.proofs.Ceilings.{staying, ceiling-bounds, raised-few, stays-above, gone-level}
 use Rattle.winners.proofs.Choices.{reached, At-own, at-own-first, at-own-next, chosen-first, chosen-next, chosen-taken, chosen-left, search-done, turn-next}
 use borrow.Fn.Kinds.{In}
@@ -23,12 +23,13 @@ use borrow.Fn.PlainCycle.{Measures, is, falls, and}
 use Rattle.winners.proofs.search.search_from.Reads as search-from
 use Rattle.winners.proofs.search.search_from.Kinds as search-from-kinds
 use Rattle.winners.proofs.search.+search_from.Lts-search_from as search-from-lts
-use Rattle.winners.proofs.hours.excess.Reads as excess-reads
-use Rattle.winners.proofs.hours.larger.Reads as larger-reads
-use Rattle.winners.proofs.hours.rest.Reads as rest-reads
+use Rattle.winners.proofs.numbers.excess.Reads as excess-reads
+use Rattle.winners.proofs.numbers.larger.Reads as larger-reads
+use Rattle.hours.proofs.rest.Reads as rest-reads
+use Rattle.winners.proofs.places.row.Reads as row-reads
 use Rattle.winners.proofs.search.first_own.Reads as first-own-reads
 use Rattle.winners.proofs.search.may_raise.Reads as may-raise-reads
-use Rattle.winners.proofs.setup.place.Reads as place-reads
+use Rattle.winners.proofs.places.place.Reads as place-reads
 use Rattle.winners.proofs.search.+search_from.{statement}
 use Rattle.winners.proofs.search.+search_from.Tie.{close}
 
@@ -51,6 +52,8 @@ told t = (
   place-reads.Learnt,
   may-raise-reads.Asked,
   may-raise-reads.Learnt,
+  row-reads.Asked,
+  row-reads.Learnt,
   rest-reads.Asked,
   rest-reads.Learnt,
   excess-reads.Asked,
@@ -106,16 +109,28 @@ search-from-add-may-raise t c =
     let r = s .pre .1 .1 .0 in
     few-fits _ _ (r .weights-few (c .before .before .before .loop .i)) (r .tops-few (s .args .c + 1))
 
+search-from-may-raise-requires : (t : ℕ) → search-from-lts.Need-may-raise-requires (told t) (search-from-at t) search-from.Post search-from-Inv-loop search-from-μ-loop
+search-from-may-raise-requires t c κs =
+    let s = c .before .before .before .before .before .before .before .before .before .before .before .before in
+    row-inside _ _ _ _ (c .before .before .before .loop .i) _ (s .pre .1 .0) (c .before .before .loop-test .taken) (c .place .ensures .0)
+
+search-from-row-requires : (t : ℕ) → search-from-lts.Need-row-requires (told t) (search-from-at t) search-from.Post search-from-Inv-loop search-from-μ-loop
+search-from-row-requires t c κs =
+    let s = c .before .before .before .before .before .before .before .before .before .before .before .before .before .before in
+    row-inside _ _ _ _ (c .before .before .before .before .before .loop .i) _ (s .pre .1 .0) (c .before .before .before .before .loop-test .taken) (c .before .before .place .ensures .0) .inside
+
 search-from-search-from-requires : (t : ℕ) → search-from-lts.Need-search-from-requires (told t) (search-from-at t) search-from.Post search-from-Inv-loop search-from-μ-loop
 search-from-search-from-requires t c κs =
-    let s = c .before .before .before .before .before .before .before .before .before .before .before .before .before .before .before .before in
-    let n = turn-next t (s .args .ahead) (s .args .c) (s .args .floor) (c .excess .result) (s .pre .0) (c .before .before .before .before .before .before .before .before .before .before .before .before .before .before .if1 .left) (s .pre .1 .1 .1) (omega (arith, c .excess .ensures, c .before .before .before .before .before .before .before .loop .inv .2)) in
+    let raised = c .before .before .before .before .before in
+    let s = raised .before .before .before .before .before .before .before .before .before .before .before .before in
+    let n = turn-next t (s .args .ahead) (s .args .c) (s .args .floor) (c .excess .result) (s .pre .0) (raised .before .before .before .before .before .before .before .before .before .before .if1 .left) (s .pre .1 .1 .1) (omega (arith, c .excess .ensures, raised .before .before .before .loop .inv .2)) in
     (n .0, (s .pre .1 .0, (s .pre .1 .1 .0, n .1)))
 
 search-from-add-larger : (t : ℕ) → search-from-lts.Need-add-larger (told t) (search-from-at t) search-from.Post search-from-Inv-loop search-from-μ-loop
 search-from-add-larger t c =
-    let s = c .before .before .before .before .before .before .before .before .before .before .before .before .before .before .before .before .before in
-    few-fits _ _ (s .pre .1 .1 .0 .weights-few (c .before .before .before .before .before .before .before .before .loop .i)) (c .search-from .ensures .1)
+    let raised = c .before .before .before .before .before .before in
+    let s = raised .before .before .before .before .before .before .before .before .before .before .before .before in
+    few-fits _ _ (s .pre .1 .1 .0 .weights-few (raised .before .before .before .loop .i)) (c .search-from .ensures .1)
 
 falls-past : (m i j : ℕ) → i + 1 ≤ j → i < m → m - j < m - i
 falls-past m i j l h = omega arith
@@ -147,11 +162,12 @@ search-from-step t c =
     let next = getD (a .tops .now) (a .c + 1) 0 in
     let covered = subst (λ (x : ℕ). weight + getD (a .tops .now) (x + 1) 0 ≤ getD (a .tops .now) x 0) (l .inv .0 .own inside) (r .ceiling .covers (l .i) inside (ap (λ (x : ℕ). stays (book-in (a .book .now)) (a .discard) x) (l .inv .0 .own inside) ∙ l .inv .0 .on inside)) in
     ⊎-elim
-    (λ x. let more = x .3 .ensures .0 ∙ ap (λ (rs : List ℕ). max (x .2 .result) (on rs)) (x .1 .ensures) in
-    let now = x .5 ∙ x .4 .ensures in (
+    (λ x. let rest = rest-here (a .book .now) (a .k) (place .result + 1) (x .1 .result) (a .left) (x .2 .result) (p .kinds-few) (x .1 .ensures) (x .2 .ensures) in
+    let more : x .4 .result ≡ max (x .3 .result) (on (less ls (bytes-at (a .k) (place .result + 1) (a .book .now)))) = x .4 .ensures .0 ∙ ap (λ (rs : List ℕ). max (x .3 .result) (on rs)) rest in
+    let now : c .if3 .top ≡ max (l .top) (weight + x .4 .result) = x .6 ∙ x .5 .ensures in (
       chosen-taken (a .book .now) (a .discard) (a .m) (a .c) ls (weight-in (a .weights .now)) (a .floor) on (a .k) (place .result) (l .i) here inside (l .inv .0)
-          (l .top) weight next _ (l .inv .1) (weight-at (a .weights .now) (l .i)) (c .before .may-raise .ensures) (x .2 .result) (x .3 .result) _ (x .0 .taken) (x .2 .ensures) more now,
-      raised-few 30064771065 (l .top) weight (x .2 .result) (x .3 .result) _ _ next (getD (a .tops .now) (a .c) 0) now more (x .2 .ensures) low covered (r .tops-few (a .c)) (l .inv .2),
+          (l .top) weight next _ (l .inv .1) (weight-at (a .weights .now) (l .i)) (c .before .may-raise .ensures) (x .3 .result) (x .4 .result) _ (x .0 .taken) (x .3 .ensures) more now,
+      raised-few 30064771065 (l .top) weight (x .3 .result) (x .4 .result) _ _ next (getD (a .tops .now) (a .c) 0) now more (x .3 .ensures) low covered (r .tops-few (a .c)) (l .inv .2),
     ))
     (λ x. (
       chosen-left (a .book .now) (a .discard) (a .m) (a .c) ls (weight-in (a .weights .now)) (a .floor) on (a .k) (place .result) (l .i) here inside (l .inv .0)
@@ -215,7 +231,8 @@ pub +search-from-spec : {M : Type 1} → statement M
     (λ c κs. search needs)
     (λ c. search needs)
     (search-from-add-may-raise t)
-    (λ c κs. search needs)
+    (search-from-may-raise-requires t)
+    (search-from-row-requires t)
     (λ c κs. search needs)
     (λ c κs. search needs)
     (λ c. search needs)

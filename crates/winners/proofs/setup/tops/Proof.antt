@@ -1,39 +1,37 @@
 -- `winners::setup::tops` meets its contract. The loop keeps the sums of the clients passed, from the last back. Assumes nothing.
 use borrow.Author.Needs.{needs}
-use mathlib.Core.Path.{ap, _∙_}
+use mathlib.Core.Path.{_≡_, ap, _∙_}
 use mathlib.Core.Bool.{Bool, cond}
 use Prim.Native.Nat.{ℕ, _+_, _*_, _-_, _≤_}
+use native.Mathlib.Nat.{le-antisymm}
 use native.Mathlib.Omega.{arith}
 use lib.ListN.{getD}
 use Rattle.book.specs.Layout.{book-in}
-use Rattle.winners.specs.Needs.{Under, stays}
-use Rattle.winners.proofs.Lookups.{under-none, under-next, Topped, topped-none, topped-next, topped-done}
+use Rattle.winners.specs.Needs.{Under, Topped, stays}
+use Rattle.winners.proofs.Lookups.{under-none, under-next, topped-none, topped-next}
 use Rattle.winners.proofs.setup.tops.Statement.{statement}
 use Rattle.winners.proofs.setup.tops.Tie as tie
 
 abbrev Inv-loop : tie.InvT-loop
-Inv-loop book k m from discard weights most tops₀ sum₀ c₀ tops sum c =
+Inv-loop book discard most tops₀ sum₀ c₀ tops sum c =
     (1 ≤ c) × (c ≤ 7) × (sum ≤ 4294967295 * (7 - c)) × Topped (stays (book-in book) discard) most c tops sum × Under 30064771065 tops
 
 abbrev μ-loop : tie.MeasureT-loop
-μ-loop book k m from discard weights most tops₀ sum₀ c₀ tops sum c = c
+μ-loop book discard most tops₀ sum₀ c₀ tops sum c = c
 
 loop-holds : tie.Need-loop-holds Inv-loop μ-loop
 loop-holds c = (search needs, search needs, search needs, topped-none _ _, under-none 30064771065 8)
 
-stays-requires : tie.Need-stays-requires Inv-loop μ-loop
-stays-requires c κs = search needs
-
 add-sum : tie.Need-add-sum Inv-loop μ-loop
-add-sum c = omega (arith, c .share .ensures .1, c .before .before .before .before .largest .ensures .1 (c .before .before .before .loop .c - 1))
+add-sum c = omega (arith, c .share .ensures .1, c .before .before .before .before .before .before .pre (c .before .before .before .before .loop .c - 1))
 
 loop-again : tie.Need-loop-again Inv-loop μ-loop
 loop-again c =
-    let l = c .before .before .before .loop in
-    let most = c .before .before .before .before .largest in
-    let down = c .before .before .loop-test .taken in
-    let small = most .ensures .1 (l .c - 1) in
-    let v = ap (λ (x : ℕ). l .sum + x) (c .share .ensures .0 ∙ ap (λ (y : Bool). cond y (getD (most .result) (l .c - 1) 0) 0) (c .before .stays .ensures)) in (
+    let l = c .before .before .before .before .loop in
+    let s = c .before .before .before .before .before .before in
+    let down = c .before .before .before .loop-test .taken in
+    let small = s .pre (l .c - 1) in
+    let v = ap (λ (x : ℕ). l .sum + x) (c .share .ensures .0 ∙ ap (λ (y : Bool). cond y (getD (s .args .most .now) (l .c - 1) 0) 0) (c .before .before .does-stay .ensures)) in (
       omega (arith, down),
       search needs,
       omega (arith, small, c .share .ensures .1, down),
@@ -44,8 +42,8 @@ loop-again c =
 returns : tie.Need-returns Inv-loop μ-loop
 returns c =
     let l = c .before .loop in
-    let p = c .before .before .before .before .pre in
-    (topped-done _ _ _ _ _ _ _ _ (c .loop-test .left) (λ i k. p .1 .0 i (omega (arith, p .0 .bids))) (c .before .before .largest .ensures .0) (l .inv .3), l .inv .4)
+    let one : l .c ≡ 1 = le-antisymm (c .loop-test .left) (l .inv .0) in
+    (rw one at (rw (← l .inv .3 .here) at (l .inv .3)), l .inv .4)
 
 pub tops-spec : {M : Type 1} → statement M
 tops-spec =
@@ -53,10 +51,9 @@ tops-spec =
     (tie.spec
     Inv-loop
     μ-loop
-    (λ c κs. c .before .pre)
     loop-holds
     (λ c. search needs)
-    stays-requires
+    (λ c κs. search needs)
     (λ c. search needs)
     (λ c. search needs)
     (λ c κs. search needs)

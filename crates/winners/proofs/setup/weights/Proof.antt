@@ -7,7 +7,7 @@ use native.Mathlib.Nat.{le-antisymm}
 use Rattle.book.specs.Layout.{book-in}
 use Rattle.combinations.specs.Combinations.{amount-of}
 use Rattle.winners.specs.Needs.{Under}
-use Rattle.winners.proofs.Arrays.{Filled, filled-none, filled-next}
+use Rattle.sets.proofs.Filled.{Filled, filled-none, filled-next}
 use Rattle.winners.proofs.Placing.{bid-here-at, amount-here}
 use Rattle.winners.proofs.Lookups.{under-none, under-next, weights-done}
 use Rattle.winners.proofs.setup.weights.Statement.{statement}

@@ -4,7 +4,7 @@ use mathlib.Core.Path.{sym, _∙_}
 use Prim.Native.Nat.{_-_}
 use Rattle.market.specs.Market.{at}
 use Rattle.winners.proofs.Answers.{surpluses-refused, list-long, list-unsorted, surpluses-none, surpluses-found}
-use Rattle.winners.proofs.Values.{refusal-none}
+use Rattle.combinations.proofs.Refusals.{refusal-none}
 use Rattle.book.proofs.Soundness.{sound}
 use borrow.Author.Tests.{not-true, not-false}
 use Rattle.book.specs.Book.{clients}

@@ -1,72 +1,43 @@
--- `winners::table::table` meets its contract. The loop keeps the entries of the sets passed. Assumes nothing.
+-- `winners::table::table` meets its contract. Assumes nothing.
 use borrow.Author.Needs.{needs}
-use mathlib.Core.Path.{_≡_}
-use Prim.Native.Nat.{_-_, _≤_}
-use native.Mathlib.Omega.{arith}
-use native.Mathlib.Nat.{le-antisymm}
-use lib.ListN.{take, set}
-use Rattle.winners.proofs.Tables.{shl-one, surplus-empty, surplus-set, table-done}
-use Rattle.winners.proofs.Arrays.{Filled, filled-zero, filled-next}
-use Rattle.combinations.specs.Surplus.{surplus}
-use Rattle.book.specs.Layout.{book-in}
-use Prim.Native.Nat.{_^_}
+use Rattle.winners.specs.Needs.{Placed}
+use Rattle.winners.proofs.Placing.{placed-sound, owned-sound, prepared-sound}
 use Rattle.winners.proofs.table.table.Statement.{statement}
 use Rattle.winners.proofs.table.table.Tie as tie
 
-abbrev Inv-loop : tie.InvT-loop
-Inv-loop book clients count v n end sigma₀ set₀ sigma set =
-    (end ≡ 2 ^ count) × (end ≤ 64) × (1 ≤ set) × (set ≤ end) × Filled 64 (surplus (book-in book) (take count clients)) set sigma
+-- the counts read are the book's
+placed : (c : tie.After-bids-place)
+    → Placed (c .before .before .before .before .args .book .now) (c .before .before .kinds .result) (c .before .bids .result) (c .bids-place .result)
+placed c = placed-sound _ _ _ _ (c .before .before .before .before .pre .0 .sound) (c .before .before .kinds .ensures) (c .before .bids .ensures) (c .bids-place .ensures)
 
-abbrev μ-loop : tie.MeasureT-loop
-μ-loop book clients count v n end sigma₀ set₀ sigma set = end - set
+weights-requires : tie.Need-weights-requires
+weights-requires c κs = placed c
 
-shl-end : tie.Need-shl-end Inv-loop μ-loop
-shl-end c = omega (arith, c .before .before .pre .0 .few)
+links-requires : tie.Need-links-requires
+links-requires c κs = (placed (c .before), owned-sound _ (c .before .before .before .before .before .pre .0 .sound))
 
-loop-holds : tie.Need-loop-holds Inv-loop μ-loop
-loop-holds c =
-    let s = shl-one _ (c .before .before .pre .0 .few) in
-    (s .0, search needs, search needs, search needs, filled-zero _ _ (surplus-empty _ _))
+largest-requires : tie.Need-largest-requires
+largest-requires c κs = (placed (c .before .before .before), (owned-sound _ (c .before .before .before .before .before .before .before .pre .0 .sound), c .before .before .weights .ensures .1))
 
-discard-of-requires : tie.Need-discard-of-requires Inv-loop μ-loop
-discard-of-requires c κs = (c .before .before .before .before .pre .0 .few, omega (arith, c .before .before .before .before .pre .0 .sound .n-high, c .before .before .clients .ensures))
-
-value-without-requires : tie.Need-value-without-requires Inv-loop μ-loop
-value-without-requires c κs = c .before .before .before .before .before .pre .0 .sound
-
-loop-again : tie.Need-loop-again Inv-loop μ-loop
-loop-again c =
-    let l = c .before .before .before .before .loop in
-    let s = c .before .before .before .before .before .before .before .pre in (
-      search needs,
-      search needs,
-      search needs,
-      search needs,
-      filled-next _ _ _ _ _ (search needs)
-          (surplus-set _ _ _ _ _ _ _ _ (s .0) (s .1) (rw (c .before .before .before .before .before .clients .ensures) at (c .before .before .discard-of .ensures)) (c .before .value-without .ensures .0) (c .excess .ensures)) (l .inv .4),
-    )
-
-returns : tie.Need-returns Inv-loop μ-loop
-returns c =
-    let l = c .before .loop in
-    table-done _ _ _ _ _ (l .inv .0) (rw (le-antisymm (c .loop-test .left) (l .inv .3)) (l .inv .4))
+filled-requires : tie.Need-filled-requires
+filled-requires c κs =
+    let weights = c .before .before .before .before .before .before .weights in
+    let largest = c .before .before .before .largest in
+    let p = c .before .before .before .before .before .before .before .before .before .before .before .pre in
+    (p .0, (p .1, prepared-sound _ _ _ _ _ (c .before .before .before .before .before .before .before .before .bids .ensures) (weights .ensures .0) (weights .ensures .1) (c .before .before .before .before .before .links .ensures) (largest .ensures .0) (largest .ensures .1)))
 
 pub table-spec : {M : Type 1} → statement M
 table-spec =
     tie.close
     (tie.spec
-    Inv-loop
-    μ-loop
     (λ c κs. search needs)
     (λ c. search needs)
-    shl-end
-    loop-holds
-    discard-of-requires
-    value-without-requires
     (λ c κs. search needs)
     (λ c. search needs)
+    (λ c κs. search needs)
     (λ c. search needs)
-    (λ c. search needs)
-    (λ c. search needs)
-    loop-again
-    returns)
+    weights-requires
+    links-requires
+    largest-requires
+    filled-requires
+    (λ c. c .filled .ensures))

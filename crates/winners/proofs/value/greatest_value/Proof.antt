@@ -1,7 +1,8 @@
 -- `winners::value::greatest_value` meets its contract. Assumes nothing.
 use borrow.Author.Needs.{needs}
 use native.Mathlib.Omega.{arith}
-use Rattle.winners.proofs.Values.{refusal-none, worth-refused, worth-past, worth-found}
+use Rattle.combinations.proofs.Refusals.{refusal-none}
+use Rattle.winners.proofs.Values.{worth-refused, worth-past, worth-found}
 use Rattle.book.proofs.Soundness.{sound}
 use Rattle.winners.proofs.value.greatest_value.Statement.{statement}
 use Rattle.winners.proofs.value.greatest_value.Tie as tie
