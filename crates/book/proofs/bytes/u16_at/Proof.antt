@@ -1,0 +1,12 @@
+-- `book::bytes::u16_at` meets its contract. Assumes nothing.
+use borrow.Author.Needs.{needs}
+use borrow.Author.Tests.{leb-true}
+use mathlib.Core.Path.{sym, _∙_}
+use Rattle.book.proofs.bytes.u16_at.Statement.{statement}
+use Rattle.book.proofs.bytes.u16_at.Tie as tie
+
+requires : tie.Need-two-in-requires
+requires c κs = leb-true _ _ (sym (c .before .has-room .ensures) ∙ c .if1 .taken)
+
+pub u16-at-spec : {M : Type 1} → statement M
+u16-at-spec = tie.close (tie.spec (λ c κs. search needs) requires (λ c. search needs) (λ c κs. search needs) (λ c. search needs) (λ c. search needs))
