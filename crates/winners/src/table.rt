@@ -3,7 +3,6 @@ use crate::hours;
 use crate::lists;
 use crate::value;
 use book::layout;
-use book::questions;
 ghost use mathlib.Core.Path.{_≡_};
 ghost use Rattle.book.specs.Layout.{book-in};
 ghost use Rattle.combinations.specs.Greatest.{greatest};

@@ -3,7 +3,6 @@ use crate::search;
 use crate::setup;
 use book::entries;
 use book::layout;
-use book::questions;
 ghost use mathlib.Core.Path.{_≡_};
 ghost use Prim.Native.Nat.{_≤_, _<_};
 ghost use lib.ListN.{take};
