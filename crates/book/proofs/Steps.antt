@@ -1,49 +1,10 @@
--- The step of a loop over a run: what the tests or the sum so far and those of the rest make together stays what the whole makes. One
--- law for each definition over lists. Cited by the proofs of src/. Assumes nothing.
-use mathlib.Core.Path.{_≡_, sym, ap, _∙_}
-use mathlib.Core.Bool.{Bool, _&&_, and-assoc, and-true, cond}
+-- The step of the loop over hours and kinds: the reserves so far and those of the rest together stay those of the whole. Cited by the
+-- proof of src/reserve.rt. Assumes nothing.
+use mathlib.Core.Path.{_≡_, sym, _∙_}
 use mathlib.Core.List.{List, [], _∷_}
 use Prim.Native.Nat.{ℕ, _+_, _*_}
-use native.Mathlib.Numerals.{add-one}
 use native.Mathlib.Nat.{add-assoc, add-zero}
-use Rattle.book.specs.Lists.{all, all-to, count, total}
-use Rattle.book.specs.Book.{Kind, Bid, reserves-of}
-use Rattle.book.specs.Questions.{bids-of, few-bids}
-use lib.Dec.{leb}
-
-module _ {A : Type 0} (p : A → Bool) where
-  pub all-next : (x : A) (xs ys : List A) (ok t now z : Bool) → xs ≡ x ∷ ys → now ≡ (ok && t) → t ≡ p x → (ok && all p xs) ≡ z → (now && all p ys) ≡ z
-  unfolding all
-  all-next x xs ys ok t now z e n h q = rw (n, h, and-assoc) (rw e at q)
-
-  pub all-done : (xs : List A) (ok z : Bool) → xs ≡ [] → (ok && all p xs) ≡ z → ok ≡ z
-  unfolding all
-  all-done xs ok z e q = sym (and-true ok) ∙ (rw e at q)
-
-  pub count-next : (x : A) (xs ys : List A) (s t z : ℕ) → xs ≡ x ∷ ys → t ≡ cond (p x) 1 0 → s + count p xs ≡ z → (s + t) + count p ys ≡ z
-  unfolding count
-  count-next x xs ys s t z e h q = rw (h, add-assoc) (rw e at q)
-
-  pub count-done : (xs : List A) (s z : ℕ) → xs ≡ [] → s + count p xs ≡ z → s ≡ z
-  unfolding count
-  count-done xs s z e q = sym (add-zero s) ∙ (rw e at q)
-
-pub all-to-next : (p : ℕ → Bool) (n : ℕ) (ok t now : Bool) → now ≡ (ok && t) → t ≡ p (n + 1) → ok ≡ all-to n p → now ≡ all-to (n + 1) p
-unfolding all-to
-all-to-next p n ok t now e h q = rw (e, h, q, add-one)
-
--- a client's count against question 4's limit
-pub few-count : (xs : List Bid) (c n : ℕ) → n ≡ bids-of c xs → leb n 8 ≡ few-bids xs c
-unfolding few-bids
-few-count xs c n e = ap (λ (k : ℕ). leb k 8) e
-
-pub total-next : (x : ℕ) (xs ys : List ℕ) (s t z : ℕ) → xs ≡ x ∷ ys → t ≡ x → s + total xs ≡ z → (s + t) + total ys ≡ z
-unfolding total
-total-next x xs ys s t z e h q = rw (h, add-assoc) (rw e at q)
-
-pub total-done : (xs : List ℕ) (s z : ℕ) → xs ≡ [] → s + total xs ≡ z → s ≡ z
-unfolding total
-total-done xs s z e q = sym (add-zero s) ∙ (rw e at q)
+use Rattle.book.specs.Book.{Kind, reserves-of}
 
 pub reserves-next : (h : ℕ) (k : Kind) (hs hs′ : List ℕ) (ks ks′ : List Kind) (s t z : ℕ) → hs ≡ h ∷ hs′ → ks ≡ k ∷ ks′ → t ≡ h * k .reserve
     → s + reserves-of hs ks ≡ z → (s + t) + reserves-of hs′ ks′ ≡ z

@@ -4,5 +4,4 @@ pub mod Book
 pub mod Layout
 pub mod Questions
 pub mod Places
-pub mod Small
 pub mod Sound

@@ -1,8 +1,8 @@
 // The fields of kinds, clients and bids by their numbers, in any bytes: what the book that the bytes hold has there, and what
 // specs/Book.antt says of a number that names nothing.
-use crate::amounts;
 use crate::bytes;
 use crate::layout;
+use crate::reserve;
 ghost use mathlib.Core.Path.{_≡_};
 ghost use lib.ListN.{getD};
 ghost use Rattle.book.specs.Book.{standing, bid-at, client-of, supplies, reserves-of};
@@ -77,6 +77,6 @@ pub fn amount(book: &[u8], number: usize) -> u32
 pub fn reserves(book: &[u8], number: usize) -> u64
     ensures { λ r. ⌜ r ≡ reserves-of (bid-at (book-in (now (book .entry))) number .hours) (book-in (now (book .entry)) .kinds) ⌝ }
 {
-    let k = layout::kinds(book) as usize;
-    amounts::reserves(book, k, bid_place(book, number) + 1)
+    let k = layout::kinds(book);
+    reserve::reserves_at(book, k, bid_place(book, number) + 1)
 }

@@ -5,7 +5,6 @@
 use book::entries;
 use book::flags;
 use book::layout;
-use book::questions;
 ghost use mathlib.Core.Path.{_≡_};
 ghost use mathlib.Core.List.{map};
 ghost use Prim.Native.Nat.{_*_, _≤_};

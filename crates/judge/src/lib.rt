@@ -10,7 +10,6 @@ ghost use mathlib.Core.Path.{_≡_};
 ghost use Rattle.demands.specs.Answer.{refusal};
 ghost use Rattle.judge.specs.Judgement.{Judgement, answer-in};
 use book::layout;
-use book::questions;
 
 // The answer to an input: 0 and the prices over q of w winners, or the number of the first question that is answered no, and zeros.
 #[repr(C)]

@@ -4,7 +4,6 @@ use crate::numbers;
 use crate::setup;
 use crate::value;
 use book::layout;
-use book::questions;
 ghost use mathlib.Core.Path.{_≡_};
 ghost use Rattle.book.specs.Layout.{book-in};
 ghost use Rattle.combinations.specs.Greatest.{greatest};

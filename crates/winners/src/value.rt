@@ -2,7 +2,6 @@
 use crate::search;
 use crate::setup;
 use book::layout;
-use book::questions;
 ghost use mathlib.Core.Path.{_≡_};
 ghost use Prim.Native.Nat.{_≤_};
 ghost use Rattle.book.specs.Layout.{book-in};

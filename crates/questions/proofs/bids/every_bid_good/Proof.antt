@@ -1,0 +1,46 @@
+-- `questions::bids::every_bid_good` meets its contract. The loop keeps the answer so far with that of the bids left. Assumes nothing.
+use borrow.Author.Needs.{needs}
+use Rattle.book.specs.Layout.{bids-in}
+use mathlib.Core.Path.{_≡_}
+use Prim.Native.Nat.{_+_, _*_, _-_, _≤_}
+use Rattle.book.specs.Lists.{all}
+use Rattle.book.proofs.Next.{bids-next, bids-none}
+use Rattle.questions.proofs.Steps.{all-next, all-done}
+use Rattle.book.specs.Questions.{bid-good}
+use mathlib.Core.Bool.{_&&_}
+use Rattle.questions.proofs.bids.every_bid_good.Statement.{statement}
+use Rattle.questions.proofs.bids.every_bid_good.Tie as tie
+
+abbrev Inv-loop : tie.InvT-loop
+Inv-loop book n k m at ok₀ place₀ left₀ ok place left =
+    ((ok && all (bid-good n) (bids-in left k place book)) ≡ all (bid-good n) (bids-in m k at book)) × (place + 260 * left ≤ at + 260 * m)
+
+abbrev μ-loop : tie.MeasureT-loop
+μ-loop book n k m at ok₀ place₀ left₀ ok place left = left
+
+loop-again : tie.Need-loop-again Inv-loop μ-loop
+loop-again c =
+    let l = c .before .before .before .loop in (
+      all-next (bid-good _) _ _ _ (l .ok) _ _ _ (bids-next _ _ _ _ (c .before .before .loop-test .taken)) (c .both .ensures)
+          (c .before .is-bid-good .ensures) (l .inv .0),
+      search needs,
+    )
+
+returns : tie.Need-returns Inv-loop μ-loop
+returns c = all-done (bid-good _) _ _ _ (bids-none _ _ _ _ (c .loop-test .left)) (c .before .loop .inv .0)
+
+pub every-bid-good-spec : {M : Type 1} → statement M
+every-bid-good-spec =
+    tie.close
+    (tie.spec
+    Inv-loop
+    μ-loop
+    (λ c. search needs)
+    (λ c κs. search needs)
+    (λ c κs. search needs)
+    (λ c. search needs)
+    (λ c. search needs)
+    (λ c. search needs)
+    (λ c. search needs)
+    loop-again
+    returns)

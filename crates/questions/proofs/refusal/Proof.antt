@@ -1,0 +1,45 @@
+-- `questions::refusal` meets its contract. Assumes nothing.
+use borrow.Author.Needs.{needs}
+use mathlib.Core.Path.{sym, _∙_}
+use Prim.Native.Nat.{_-_}
+use Rattle.book.specs.Questions.{book-refusal}
+use borrow.Author.Tests.{not-true, not-false}
+use Rattle.questions.proofs.refusal.Statement.{statement}
+use Rattle.questions.proofs.refusal.Tie as tie
+
+returns : tie.Need-returns
+unfolding book-refusal
+returns c = rw (sym (c .before .is-version-good .ensures) ∙ not-true _ (c .if1 .taken))
+
+returns-2 : tie.Need-returns-2
+unfolding book-refusal
+returns-2 c =
+    rw (
+      sym (c .before .before .before .is-version-good .ensures) ∙ not-false _ (c .before .before .if1 .left),
+      sym (c .before .are-counts-good .ensures) ∙ not-true _ (c .if2 .taken),
+    )
+
+returns-3 : tie.Need-returns-3
+unfolding book-refusal
+returns-3 c =
+    rw (
+      sym (c .before .before .before .before .before .before .before .is-version-good .ensures) ∙ not-false _ (c .before .before .before .before .before .before .if1 .left),
+      sym (c .before .before .before .before .before .are-counts-good .ensures) ∙ not-false _ (c .before .before .before .before .if2 .left),
+      ← c .before .before .before .are-tables-good .ensures,
+      ← c .before .before .are-bids-good .ensures,
+      ← c .before .are-amounts-good .ensures,
+    ) (c .first-no .ensures)
+
+pub refusal-spec : {M : Type 1} → statement M
+refusal-spec =
+    tie.close
+    (tie.spec
+    (λ c κs. search needs)
+    returns
+    (λ c κs. search needs)
+    returns-2
+    (λ c κs. search needs)
+    (λ c κs. search needs)
+    (λ c κs. search needs)
+    (λ c κs. search needs)
+    returns-3)
