@@ -1,6 +1,6 @@
 //! A branch and bound in Rust over bids sorted by amount: the best bids first, the amounts still to come as the bound.
 
-use crate::plain::Shape;
+use crate::shape::Shape;
 
 struct Bid {
     client: usize,
