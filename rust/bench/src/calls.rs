@@ -2,7 +2,7 @@
 
 use crate::books::Kind;
 use crate::search::greatest;
-use crate::shape::Shape;
+use crate::shape::{fits, rest, Shape};
 use generate::{acceptable_sheet, write, Rng};
 use reference::{Book, Sheet, Weights};
 
@@ -14,8 +14,8 @@ fn best(s: &Shape, client: usize, left: [u8; 4]) -> (u64, Vec<usize>) {
     let mut top = best(s, client + 1, left);
     for bid in 0..s.bids {
         let at = s.place(bid);
-        if usize::from(s.book[at]) == client && s.stays(client, 0) && s.fits(at + 1, &left) {
-            let (more, mut bids) = best(s, client + 1, s.rest(at + 1, left));
+        if usize::from(s.book[at]) == client && s.stays(client, 0) && fits(s.hours(at), &left) {
+            let (more, mut bids) = best(s, client + 1, rest(s.hours(at), left));
             bids.insert(0, bid + 1);
             top = top.max((u64::from(s.amount(at)) + more, bids));
         }

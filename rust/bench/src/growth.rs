@@ -63,11 +63,8 @@ fn rows(labels: &[usize], steps: &[Vec<Measured>]) {
     let times = least(&works);
     let width = times.len() / labels.len();
     for (row, label) in times.chunks(width).zip(labels) {
-        print!("{label:<10}");
-        for (now, first) in row.iter().zip(&times) {
-            print!("{:>10.2}", now / first);
-        }
-        println!();
+        let ratios = row.iter().zip(&times).map(|(now, first)| format!("{:>10.2}", now / first));
+        println!("{label:<10}{}", ratios.collect::<String>());
     }
 }
 
@@ -81,7 +78,8 @@ fn head(first: &str, kinds: &[&str]) {
 }
 
 pub fn bids_table() {
-    println!("Growth with the bids: the time over that for 6 bids, one of each client. The winners are six and the same.");
+    println!("Growth with the bids: the time over that for 6 bids, one of each client. The same six win each time; all 64");
+    println!("greatest values are those of the same search with the questions put at each call.");
     println!();
     head("bids", &["loose", "tight"]);
     let full = [LOOSE, TIGHT].map(|kind| Call::of_kind(&kind));

@@ -3,7 +3,7 @@
 use crate::certificate::{self, Bounds};
 use crate::questions::{self, reserves_of};
 use crate::search::greatest;
-use crate::shape::Shape;
+use crate::shape::{fits, rest, Shape};
 use crate::sheet::{self, Sheet};
 use certifier::Prices;
 
@@ -21,10 +21,10 @@ fn combination(book: &Shape, sheet: &Sheet) -> Option<Chosen> {
         let bid = usize::from(sheet.bids[j]).checked_sub(1).filter(|&bid| bid < book.bids)?;
         let at = book.place(bid);
         let client = book.book[at];
-        if client <= last || !book.stays(usize::from(client), 0) || !book.fits(at + 1, &left) {
+        if client <= last || !book.stays(usize::from(client), 0) || !fits(book.hours(at), &left) {
             return None;
         }
-        left = book.rest(at + 1, left);
+        left = rest(book.hours(at), left);
         chosen.clients[j] = client;
         chosen.value += u64::from(book.amount(at));
         last = client;

@@ -16,6 +16,9 @@ mod sheet;
 mod timing;
 mod values;
 
+#[cfg(test)]
+mod alike;
+
 fn main() {
     let tables = [
         values::table,

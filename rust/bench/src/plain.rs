@@ -1,6 +1,6 @@
 //! The plain recursion on the clients left, in Rust, with its bounds checks.
 
-use crate::shape::Shape;
+use crate::shape::{amount_of, fits, hours_of, rest, Shape};
 
 fn weigh(s: &Shape, ahead: usize, client: usize, discard: u8, left: [u8; 4]) -> u64 {
     if ahead == 0 {
@@ -8,13 +8,11 @@ fn weigh(s: &Shape, ahead: usize, client: usize, discard: u8, left: [u8; 4]) -> 
     }
     let on = s.stays(client, discard);
     let mut top = weigh(s, ahead - 1, client + 1, discard, left);
-    let mut at = s.from;
-    for _ in 0..s.bids {
-        if s.book[at] as usize == client && on && s.fits(at + 1, &left) {
-            let more = weigh(s, ahead - 1, client + 1, discard, s.rest(at + 1, left));
-            top = top.max(u64::from(s.amount(at)) + more);
+    for bid in s.each_bid() {
+        if bid[0] as usize == client && on && fits(hours_of(bid), &left) {
+            let more = weigh(s, ahead - 1, client + 1, discard, rest(hours_of(bid), left));
+            top = top.max(u64::from(amount_of(bid)) + more);
         }
-        at += s.kinds + 5;
     }
     top
 }

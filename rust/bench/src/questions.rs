@@ -1,6 +1,6 @@
 //! Questions 1 to 5 in Rust.
 
-use crate::shape::Shape;
+use crate::shape::{amount_of, hours_of, Shape};
 
 /// The counts, where question 2 is answered yes.
 fn counted(bytes: &[u8]) -> Option<Shape<'_>> {
@@ -17,15 +17,6 @@ fn counted(bytes: &[u8]) -> Option<Shape<'_>> {
 fn tables_good(shape: &Shape) -> bool {
     let kind_good = |kind: &[u8]| kind[0] <= 200 && u16::from_be_bytes([kind[1], kind[2]]) <= 10_000;
     shape.tables().all(kind_good) && shape.statuses().iter().all(|&status| status <= 1)
-}
-
-fn amount_of(bid: &[u8]) -> u32 {
-    let (_, amount) = bid.split_last_chunk().unwrap();
-    u32::from_be_bytes(*amount)
-}
-
-fn hours_of(bid: &[u8]) -> &[u8] {
-    &bid[1..bid.len() - 4]
 }
 
 fn bids_good(shape: &Shape) -> bool {

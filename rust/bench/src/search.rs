@@ -1,7 +1,7 @@
 //! The same search in Rust, with its bounds checks: links, ceilings and weights once, then the clients left, from a floor.
 
 use crate::questions;
-use crate::shape::Shape;
+use crate::shape::{fits, rest, Shape};
 
 /// What the search looks up.
 struct Lookups {
@@ -45,9 +45,10 @@ fn search(s: &Shape, l: &Lookups, ahead: usize, client: usize, left: [u8; 4], fl
     let mut i = if ceiling < l.tops[client] { l.links[48 + client] } else { s.bids };
     while i < s.bids {
         let weight = l.weights[i];
-        let at = s.place(i) + 1;
-        if top < weight + ceiling && s.fits(at, &left) {
-            let more = search(s, l, ahead - 1, client + 1, s.rest(at, left), top.saturating_sub(weight));
+        let at = s.place(i);
+        if top < weight + ceiling && fits(s.hours(at), &left) {
+            let after = rest(s.hours(at), left);
+            let more = search(s, l, ahead - 1, client + 1, after, top.saturating_sub(weight));
             top = top.max(weight + more);
         }
         i = l.links[i];

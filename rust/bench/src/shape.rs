@@ -45,23 +45,13 @@ impl<'a> Shape<'a> {
         u32::from_be_bytes(self.book[place..place + 4].try_into().unwrap())
     }
 
+    /// The hours of the bid at a place.
+    pub fn hours(&self, at: usize) -> &'a [u8] {
+        &self.book[at + 1..at + 1 + self.kinds]
+    }
+
     pub fn stays(&self, client: usize, discard: u8) -> bool {
         (discard >> (client - 1)) & 1 == 0 && self.book[self.statuses + client - 1] == 0
-    }
-
-    /// Whether the hours at a place fit what is left.
-    #[inline(always)]
-    pub fn fits(&self, at: usize, left: &[u8; 4]) -> bool {
-        (0..self.kinds).all(|i| self.book[at + i] <= left[i])
-    }
-
-    /// What is left once the hours at a place are taken; they fit.
-    #[inline(always)]
-    pub fn rest(&self, at: usize, mut left: [u8; 4]) -> [u8; 4] {
-        for i in 0..self.kinds {
-            left[i] -= self.book[at + i];
-        }
-        left
     }
 
     pub fn supply(&self) -> [u8; 4] {
@@ -80,4 +70,30 @@ impl<'a> Shape<'a> {
         }
         reserves
     }
+}
+
+/// Whether the hours asked for fit what is left.
+#[inline(always)]
+pub fn fits(hours: &[u8], left: &[u8; 4]) -> bool {
+    hours.iter().zip(left).all(|(hours, left)| hours <= left)
+}
+
+/// What is left once the hours are taken; they fit.
+#[inline(always)]
+pub fn rest(hours: &[u8], mut left: [u8; 4]) -> [u8; 4] {
+    for (left, hours) in left.iter_mut().zip(hours) {
+        *left -= hours;
+    }
+    left
+}
+
+/// The hours of a bid.
+pub fn hours_of(bid: &[u8]) -> &[u8] {
+    &bid[1..bid.len() - 4]
+}
+
+/// The amount of a bid.
+pub fn amount_of(bid: &[u8]) -> u32 {
+    let (_, amount) = bid.split_last_chunk().unwrap();
+    u32::from_be_bytes(*amount)
 }
