@@ -3,7 +3,7 @@
 use crate::books::{LOOSE, TIGHT};
 use crate::calls::Call;
 use crate::judge::judge_sheet;
-use crate::timing::{least, work, Work};
+use crate::timing::{work, Rounds, Work};
 use crate::values;
 use reference::Book;
 use std::hint::black_box;
@@ -60,11 +60,12 @@ fn standing(call: &Call, clients: usize) -> Book {
 /// A row for each step, with its times over those of the first row: four columns for each of its calls.
 fn rows(labels: &[usize], steps: &[Vec<Measured>]) {
     let works: Vec<Work> = steps.iter().flatten().flat_map(Measured::works).collect();
-    let times = least(&works);
-    let width = times.len() / labels.len();
-    for (row, label) in times.chunks(width).zip(labels) {
-        let ratios = row.iter().zip(&times).map(|(now, first)| format!("{:>10.2}", now / first));
-        println!("{label:<10}{}", ratios.collect::<String>());
+    let rounds = Rounds::of(&works);
+    let width = works.len() / labels.len();
+    for (row, label) in labels.iter().enumerate() {
+        let ratios = (0..width).map(|column| rounds.ratio(row * width + column, column));
+        let cells: String = ratios.map(|ratio| format!("{ratio:>10.2}")).collect();
+        println!("{label:<10}{cells}");
     }
 }
 

@@ -4,7 +4,7 @@ use crate::books::{KINDS, TIGHT};
 use crate::calls::Call;
 use crate::damage::damaged;
 use crate::judge::judge_sheet;
-use crate::timing::{first_over_others, work};
+use crate::timing::{work, Rounds};
 use std::hint::black_box;
 
 /// Our time for judging a call over that of the program in Rust; both must answer alike, with this number.
@@ -12,10 +12,11 @@ fn ratio(what: &str, input: &[u8], number: u32) -> f64 {
     let ours = certifier::judge_sheet(input);
     assert_eq!(ours, judge_sheet(input), "answers differ: {what}");
     assert_eq!(ours.number, number, "another answer than expected: {what}");
-    first_over_others(&[
+    let works = [
         work(|| certifier::judge_sheet(black_box(input))),
         work(|| judge_sheet(black_box(input))),
-    ])[0]
+    ];
+    Rounds::of(&works).ratio(0, 1)
 }
 
 pub fn accepted_table() {

@@ -1,10 +1,12 @@
-//! The least times of several works, in turns that follow each other, for ratios in one run.
+//! Ratios of times in one run: the works take short turns, round after round, and each counts with its lower quartile.
 
 use std::hint::black_box;
 use std::time::{Duration, Instant};
 
-const TURN: Duration = Duration::from_millis(2);
-const TURNS: usize = 30;
+/// A turn is short, so that few are broken into by other work on the machine.
+const TURN: Duration = Duration::from_micros(400);
+/// What the rounds may take for each work.
+const BUDGET: Duration = Duration::from_millis(130);
 
 /// A piece of work: done so many times, it gives the time that took.
 pub type Work<'a> = Box<dyn Fn(u32) -> Duration + 'a>;
@@ -28,20 +30,31 @@ fn times_in_turn(work: &Work) -> u32 {
     times
 }
 
-/// The least time of each work for doing it once. The works take turns, so that what else the machine does meets them alike.
-pub fn least(works: &[Work]) -> Vec<f64> {
-    let times: Vec<u32> = works.iter().map(times_in_turn).collect();
-    let mut best = vec![f64::MAX; works.len()];
-    for turn in 0..TURNS * works.len() {
-        let i = turn % works.len();
-        let once = works[i](times[i]).as_secs_f64() / f64::from(times[i]);
-        best[i] = best[i].min(once);
-    }
-    best
-}
+/// The time of doing each work once, round after round.
+pub struct Rounds(Vec<Vec<f64>>);
 
-/// The time of the first work over that of each of the others.
-pub fn first_over_others(works: &[Work]) -> Vec<f64> {
-    let times = least(works);
-    times[1..].iter().map(|time| times[0] / time).collect()
+impl Rounds {
+    /// At least twelve rounds, however long the works are.
+    pub fn of(works: &[Work]) -> Rounds {
+        let times: Vec<u32> = works.iter().map(times_in_turn).collect();
+        let once = |(work, &times): (&Work, &u32)| work(times).as_secs_f64() / f64::from(times);
+        let start = Instant::now();
+        let mut rounds = Vec::new();
+        while rounds.len() < 12 || start.elapsed() < BUDGET * works.len() as u32 {
+            rounds.push(works.iter().zip(&times).map(once).collect());
+        }
+        Rounds(rounds)
+    }
+
+    /// The lower quartile of a work's times: neither the turns that were broken into nor the luckiest one.
+    fn time(&self, of: usize) -> f64 {
+        let mut times: Vec<f64> = self.0.iter().map(|round| round[of]).collect();
+        times.sort_unstable_by(f64::total_cmp);
+        times[times.len() / 4]
+    }
+
+    /// The time of one work over that of another.
+    pub fn ratio(&self, of: usize, over: usize) -> f64 {
+        self.time(of) / self.time(over)
+    }
 }

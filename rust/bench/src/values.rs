@@ -1,7 +1,7 @@
 //! The table of greatest values: all 64 of a full book of each kind.
 
 use crate::books::KINDS;
-use crate::timing::{first_over_others, work, Work};
+use crate::timing::{work, Rounds, Work};
 use crate::{branch, plain, search};
 use std::hint::black_box;
 
@@ -32,9 +32,10 @@ fn row(name: &str, book: &[u8]) {
     }
     let mut works: Vec<Work> = vec![work(|| ours(book)), work(|| questions(book)), work(|| asked(book))];
     works.extend(others.map(|sum| work(sum) as Work));
-    let ratios = first_over_others(&works);
-    let [questions, asked, plain, search, branch] = ratios[..] else { unreachable!() };
-    println!("{name:22}{plain:>10.4}{search:>10.2}{asked:>18.2}{branch:>18.2}{:>18.2}", 1.0 / questions);
+    let rounds = Rounds::of(&works);
+    let [asked, plain, search, branch] = [2, 3, 4, 5].map(|other| rounds.ratio(0, other));
+    let questions = rounds.ratio(1, 0);
+    println!("{name:22}{plain:>10.4}{search:>10.2}{asked:>18.2}{branch:>18.2}{questions:>18.2}");
 }
 
 pub fn table() {
