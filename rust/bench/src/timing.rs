@@ -1,5 +1,6 @@
 //! Ratios of times in one run: the works take short turns, round after round, and each counts with its lower quartile.
 
+use std::fs::read_to_string;
 use std::hint::black_box;
 use std::time::{Duration, Instant};
 
@@ -11,13 +12,23 @@ const BUDGET: Duration = Duration::from_millis(130);
 /// A piece of work: done so many times, it gives the time that took.
 pub type Work<'a> = Box<dyn Fn(u32) -> Duration + 'a>;
 
+/// How long this thread has waited for a processor so far, which Linux says in nanoseconds; 0 where nothing says it.
+fn waited() -> Duration {
+    let says = read_to_string("/proc/thread-self/schedstat").unwrap_or_default();
+    let nanoseconds = says.split_whitespace().nth(1).and_then(|field| field.parse().ok());
+    Duration::from_nanos(nanoseconds.unwrap_or(0))
+}
+
+/// The time of a work, without what it waited while others had the processor.
 pub fn work<'a, R>(one: impl Fn() -> R + 'a) -> Work<'a> {
     Box::new(move |times| {
+        let before = waited();
         let start = Instant::now();
         for _ in 0..times {
             black_box(one());
         }
-        start.elapsed()
+        let taken = start.elapsed();
+        taken.saturating_sub(waited().saturating_sub(before))
     })
 }
 
