@@ -79,7 +79,7 @@ fn head(first: &str, kinds: &[&str]) {
 }
 
 pub fn bids_table() {
-    println!("Growth with the bids: the time over that for 6 bids, one of each client. The same six win each time; all 64");
+    println!("Growth with the bids: the time over that for 6 bids, one of each client. The same six clients win; all 64");
     println!("greatest values are those of the same search with the questions put at each call.");
     println!();
     head("bids", &["loose", "tight"]);
