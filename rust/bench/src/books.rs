@@ -1,54 +1,64 @@
-//! Full books, six clients of eight bids each over four kinds, of several natures.
+//! Full books, six clients of eight bids each over four kinds of hour, of seven kinds of book.
 
 use generate::Rng;
 
-/// A full book as bytes: each bid's hours and amount as the two functions say.
-fn full(supply: u8, mut hours: impl FnMut() -> [u8; 4], mut amount: impl FnMut([u8; 4]) -> u32) -> Vec<u8> {
-    let mut body = vec![4_u8];
-    for _ in 0..4 {
-        body.extend([supply, 0, 0]);
-    }
-    body.extend([6, 0, 0, 0, 0, 0, 0, 48]);
-    for i in 0..48 {
-        let asked = hours();
-        body.push(i % 6 + 1);
-        body.extend(asked);
-        body.extend(amount(asked).to_be_bytes());
-    }
-    let mut book = vec![1];
-    book.extend((body.len() as u16 + 3).to_be_bytes());
-    book.extend(body);
-    book
-}
-
-fn up_to(rng: &mut Rng, most: u64) -> u64 {
-    rng.bits() % (most + 1)
-}
-
-/// Hours of up to 30 of each kind, and an amount of the given form with a random part.
-fn random(seed: u64, supply: u8, amount: impl Fn([u8; 4], u64) -> u64) -> Vec<u8> {
-    let mut a = Rng::new(seed);
-    let mut b = Rng::new(seed + 1);
-    full(
-        supply,
-        || [0; 4].map(|_| 1 + up_to(&mut a, 29) as u8),
-        |hours| amount(hours, up_to(&mut b, 999_999)) as u32,
-    )
+/// A kind of book: the supply of each kind of hour, and a bid's amount from its hours and a number below 1,000,000.
+#[derive(Clone, Copy)]
+pub struct Kind {
+    pub name: &'static str,
+    supply: u8,
+    amount: fn([u8; 4], u64) -> u64,
+    /// A seed, found by trying, for which six clients win; where no bid fits none can.
+    pub six_winners: u64,
 }
 
 fn total(hours: [u8; 4]) -> u64 {
     hours.iter().map(|&h| u64::from(h)).sum()
 }
 
-/// The natures of book that are measured, by name.
-pub fn natures(seed: u64) -> Vec<(&'static str, Vec<u8>)> {
-    vec![
-        ("loose", random(seed, 200, |_, r| 1 + r)),
-        ("half fits", random(seed + 2, 60, |_, r| 1 + r)),
-        ("near-ties", random(seed + 4, 60, |_, r| 500_000 + r % 5_000)),
-        ("tight", random(seed + 6, 40, |_, r| 1 + r)),
-        ("amounts follow hours", random(seed + 8, 60, |h, r| 5_000 * total(h) + r % 5_000)),
-        ("equal amounts", random(seed + 10, 60, |_, _| 500_000)),
-        ("none fits", random(seed + 12, 0, |_, r| 1 + r)),
-    ]
+const fn kind(name: &'static str, supply: u8, amount: fn([u8; 4], u64) -> u64, six_winners: u64) -> Kind {
+    Kind { name, supply, amount, six_winners }
+}
+
+pub const LOOSE: Kind = kind("loose", 200, |_, r| 1 + r, 1);
+pub const TIGHT: Kind = kind("tight", 40, |_, r| 1 + r, 64129);
+
+pub const KINDS: [Kind; 7] = [
+    LOOSE,
+    kind("half fits", 60, |_, r| 1 + r, 19),
+    kind("near-ties", 60, |_, r| 500_000 + r % 5_000, 1),
+    TIGHT,
+    kind("amounts follow hours", 60, |hours, r| 5_000 * total(hours) + r % 5_000, 142),
+    kind("equal amounts", 60, |_, _| 500_000, 1),
+    kind("none fits", 0, |_, r| 1 + r, 1),
+];
+
+impl Kind {
+    /// A full book as bytes, with 1 to 30 hours of each kind in each bid; bid i is of client i % 6 + 1.
+    pub fn book(&self, seed: u64) -> Vec<u8> {
+        let mut hours = Rng::new(seed);
+        let mut amounts = Rng::new(seed + 1);
+        let bid = |i: u8| {
+            let asked = [0; 4].map(|_| 1 + (hours.bits() % 30) as u8);
+            let amount = (self.amount)(asked, amounts.bits() % 1_000_000) as u32;
+            let [a, b, c, d] = asked;
+            let [e, f, g, h] = amount.to_be_bytes();
+            [i % 6 + 1, a, b, c, d, e, f, g, h]
+        };
+        with_bids(self.supply, (0..48).map(bid))
+    }
+}
+
+/// A book of six standing clients, over four kinds of hour of the same supply and no reserve.
+fn with_bids(supply: u8, bids: impl Iterator<Item = [u8; 9]>) -> Vec<u8> {
+    let mut body = vec![4];
+    body.extend([supply, 0, 0].repeat(4));
+    body.extend([6, 0, 0, 0, 0, 0, 0]);
+    let bids: Vec<[u8; 9]> = bids.collect();
+    body.push(bids.len() as u8);
+    body.extend(bids.concat());
+    let mut book = vec![1];
+    book.extend((body.len() as u16 + 3).to_be_bytes());
+    book.extend(body);
+    book
 }

@@ -1,6 +1,6 @@
 //! A branch and bound in Rust over bids sorted by amount: the best bids first, the amounts still to come as the bound.
 
-use crate::plain::Shape;
+use crate::shape::{fits, rest, Shape};
 
 struct Bid {
     client: usize,
@@ -27,9 +27,9 @@ fn branch(s: &Shape, bids: &[Bid], next: usize, free: u8, left: [u8; 4], value: 
         return;
     }
     for (i, bid) in bids.iter().enumerate().skip(next) {
-        if free >> bid.client & 1 == 1 && s.fits(bid.at + 1, &left) {
-            let rest = s.rest(bid.at + 1, left);
-            branch(s, bids, i + 1, free & !(1 << bid.client), rest, value + bid.amount, found);
+        if free >> bid.client & 1 == 1 && fits(s.hours(bid.at), &left) {
+            let left = rest(s.hours(bid.at), left);
+            branch(s, bids, i + 1, free & !(1 << bid.client), left, value + bid.amount, found);
         }
         if value + bid.amount * u64::from(free.count_ones()) <= *found {
             return;

@@ -1,6 +1,7 @@
 //! The same search in Rust, with its bounds checks: links, ceilings and weights once, then the clients left, from a floor.
 
-use crate::plain::Shape;
+use crate::questions;
+use crate::shape::{fits, rest, Shape};
 
 /// What the search looks up.
 struct Lookups {
@@ -21,37 +22,56 @@ fn look_up(s: &Shape, discard: u8) -> Lookups {
         links[48 + client] = i;
         most[client] = most[client].max(weights[i]);
     }
+    let tops = ceilings(s, discard, &most);
+    Lookups { weights, links, tops }
+}
+
+/// For each client the sum of the largest weights of the clients that stay, from it on.
+fn ceilings(s: &Shape, discard: u8, most: &[u64; 7]) -> [u64; 8] {
     let mut tops = [0; 8];
     for c in (1..=s.clients).rev() {
         let own = if s.stays(c, discard) { most[c] } else { 0 };
         tops[c] = tops[c + 1] + own;
     }
-    Lookups { weights, links, tops }
+    tops
 }
 
-fn search(s: &Shape, l: &Lookups, ahead: usize, client: usize, discard: u8, left: [u8; 4], floor: u64) -> u64 {
+fn search(s: &Shape, l: &Lookups, ahead: usize, client: usize, left: [u8; 4], floor: u64) -> u64 {
     if ahead == 0 || l.tops[client] <= floor {
         return floor;
     }
     let ceiling = l.tops[client + 1];
     let mut top = floor;
-    let mut i = if s.stays(client, discard) { l.links[48 + client] } else { s.bids };
+    let mut i = if ceiling < l.tops[client] { l.links[48 + client] } else { s.bids };
     while i < s.bids {
         let weight = l.weights[i];
-        let at = s.place(i) + 1;
-        if top < weight + ceiling && s.fits(at, &left) {
-            let rest = s.rest(at, left);
-            let more = search(s, l, ahead - 1, client + 1, discard, rest, top.saturating_sub(weight));
+        let at = s.place(i);
+        if top < weight + ceiling && fits(s.hours(at), &left) {
+            let after = rest(s.hours(at), left);
+            let more = search(s, l, ahead - 1, client + 1, after, top.saturating_sub(weight));
             top = top.max(weight + more);
         }
         i = l.links[i];
     }
-    search(s, l, ahead - 1, client + 1, discard, left, top)
+    search(s, l, ahead - 1, client + 1, left, top)
 }
 
-/// The greatest value of a sound book with clients discarded.
+/// The greatest value with clients discarded.
+pub fn greatest(shape: &Shape, discard: u8) -> u64 {
+    let lookups = look_up(shape, discard);
+    search(shape, &lookups, shape.clients, 1, shape.supply(), 0)
+}
+
+/// The greatest value of a sound book, with no question put.
 pub fn greatest_value(book: &[u8], discard: u8) -> u64 {
-    let shape = Shape::of(book);
-    let lookups = look_up(&shape, discard);
-    search(&shape, &lookups, shape.clients, 1, discard, shape.supply(), 0)
+    greatest(&Shape::of(book), discard)
+}
+
+/// The greatest value of any bytes, as ours: questions 1 to 5 and 16 first.
+pub fn asked_value(bytes: &[u8], discard: u8) -> Result<u64, u8> {
+    let shape = questions::sound(bytes)?;
+    if 0 < discard >> shape.clients {
+        return Err(16);
+    }
+    Ok(greatest(&shape, discard))
 }

@@ -1,0 +1,77 @@
+//! Calls that are accepted: a book, the bids that win, and an acceptable sheet for them.
+
+use crate::books::Kind;
+use crate::search::greatest;
+use crate::shape::{fits, rest, Shape};
+use generate::{acceptable_sheet, write, Rng};
+use reference::{Book, Sheet, Weights};
+
+/// The greatest value of the clients from this one on with the hours left, and the bids that come to it, numbered from 1.
+fn best(s: &Shape, client: usize, left: [u8; 4]) -> (u64, Vec<usize>) {
+    if s.clients < client {
+        return (0, Vec::new());
+    }
+    let mut top = best(s, client + 1, left);
+    for bid in 0..s.bids {
+        let at = s.place(bid);
+        if usize::from(s.book[at]) == client && s.stays(client, 0) && fits(s.hours(at), &left) {
+            let (more, mut bids) = best(s, client + 1, rest(s.hours(at), left));
+            bids.insert(0, bid + 1);
+            top = top.max((u64::from(s.amount(at)) + more, bids));
+        }
+    }
+    top
+}
+
+/// Bids of greatest value, by rising client.
+fn winners(book: &Book) -> Vec<usize> {
+    let bytes = write::book(book);
+    let shape = Shape::of(&bytes);
+    best(&shape, 1, shape.supply()).1
+}
+
+/// v, σ and ρ, by the search in Rust.
+fn weights(book: &Book, winners: &[usize]) -> Weights {
+    let bytes = write::book(book);
+    let shape = Shape::of(&bytes);
+    let v = greatest(&shape, 0);
+    let client = |k: usize| book.bids[winners[k] - 1].client - 1;
+    let discard = |set: usize| (0..winners.len()).fold(0, |byte, k| byte | (set >> k & 1) << client(k));
+    let sigma = |set: usize| i128::from(v - greatest(&shape, discard(set) as u8));
+    let rho = |&bid: &usize| book.bids[bid - 1].amount - book.reserves(&book.bids[bid - 1]);
+    Weights {
+        v: i128::from(v),
+        sigma: (0..1 << winners.len()).map(sigma).collect(),
+        rho: winners.iter().map(rho).collect(),
+    }
+}
+
+/// A book and an acceptable sheet over it.
+#[derive(Clone)]
+pub struct Call {
+    pub book: Book,
+    pub sheet: Sheet,
+}
+
+impl Call {
+    pub fn over(book: Book) -> Call {
+        let winners = winners(&book);
+        let weights = weights(&book, &winners);
+        let sheet = acceptable_sheet(&mut Rng::new(1), &weights, &winners);
+        Call { book, sheet }
+    }
+
+    /// Over a full book of a kind that has six winners wherever the kind allows it.
+    pub fn of_kind(kind: &Kind) -> Call {
+        let bytes = kind.book(kind.six_winners);
+        Call::over(Book::read(&bytes).expect("the book can be read"))
+    }
+
+    pub fn book_bytes(&self) -> Vec<u8> {
+        write::book(&self.book)
+    }
+
+    pub fn input(&self) -> Vec<u8> {
+        write::input(&self.book, &self.sheet)
+    }
+}

@@ -1,0 +1,93 @@
+//! Judging a sheet in Rust: questions 1 to 15 in their order, and the prices.
+
+use crate::certificate::{self, Bounds};
+use crate::questions::{self, reserves_of};
+use crate::search::greatest;
+use crate::shape::{fits, rest, Shape};
+use crate::sheet::{self, Sheet};
+use certifier::Prices;
+
+/// The clients and the value of the winners, where question 8 is answered yes.
+struct Chosen {
+    clients: [u8; 6],
+    value: u64,
+}
+
+fn combination(book: &Shape, sheet: &Sheet) -> Option<Chosen> {
+    let mut chosen = Chosen { clients: [0; 6], value: 0 };
+    let mut left = book.supply();
+    let mut last = 0;
+    for j in 0..sheet.w {
+        let bid = usize::from(sheet.bids[j]).checked_sub(1).filter(|&bid| bid < book.bids)?;
+        let at = book.place(bid);
+        let client = book.book[at];
+        if client <= last || !book.stays(usize::from(client), 0) || !fits(book.hours(at), &left) {
+            return None;
+        }
+        left = rest(book.hours(at), left);
+        chosen.clients[j] = client;
+        chosen.value += u64::from(book.amount(at));
+        last = client;
+    }
+    Some(chosen)
+}
+
+/// The discard byte of the clients of a set of winners.
+fn discard_of(clients: &[u8], set: usize) -> u8 {
+    let members = clients.iter().enumerate().filter(|(j, _)| set >> j & 1 == 1);
+    members.fold(0, |byte, (_, client)| byte | 1 << (client - 1))
+}
+
+fn surpluses(book: &Shape, clients: &[u8], v: u64) -> [u64; 64] {
+    let mut sigma = [0; 64];
+    for set in 1..1 << clients.len() {
+        sigma[set] = v - greatest(book, discard_of(clients, set));
+    }
+    sigma
+}
+
+fn winning_amount(book: &Shape, sheet: &Sheet, j: usize) -> u64 {
+    u64::from(book.amount(book.place(usize::from(sheet.bids[j]) - 1)))
+}
+
+fn above_reserves(book: &Shape, sheet: &Sheet) -> [u64; 6] {
+    let reserves = book.reserves();
+    let mut rho = [0; 6];
+    for j in 0..sheet.w {
+        let at = book.place(usize::from(sheet.bids[j]) - 1);
+        let bid = &book.book[at..at + book.kinds + 5];
+        rho[j] = winning_amount(book, sheet, j) - reserves_of(bid, &reserves);
+    }
+    rho
+}
+
+fn accepted(book: &Shape, sheet: &Sheet) -> Prices {
+    let mut prices = [0; 6];
+    for j in 0..sheet.w {
+        prices[j] = sheet.q * winning_amount(book, sheet, j) - sheet.x[j];
+    }
+    Prices { number: 0, w: sheet.w as u32, q: sheet.q as u32, prices }
+}
+
+fn judged(input: &[u8]) -> Result<Prices, u8> {
+    let book = questions::sound(input)?;
+    let sheet = sheet::read(&input[book.book.len()..], book.clients).ok_or(6)?;
+    if !certificate::in_range(&sheet) {
+        return Err(7);
+    }
+    let chosen = combination(&book, &sheet).ok_or(8)?;
+    let v = greatest(&book, 0);
+    if chosen.value != v {
+        return Err(9);
+    }
+    let sigma = surpluses(&book, &chosen.clients[..sheet.w], v);
+    let rho = above_reserves(&book, &sheet);
+    certificate::judged(&sheet, &Bounds { sigma, rho })?;
+    Ok(accepted(&book, &sheet))
+}
+
+/// The answer to a call, as that of the proved library.
+pub fn judge_sheet(input: &[u8]) -> Prices {
+    let refused = |number| Prices { number: u32::from(number), w: 0, q: 0, prices: [0; 6] };
+    judged(input).unwrap_or_else(refused)
+}

@@ -1,0 +1,71 @@
+//! Ratios of times in one run: the works take short turns, round after round, and each counts with its lower quartile.
+
+use std::fs::read_to_string;
+use std::hint::black_box;
+use std::time::{Duration, Instant};
+
+/// A turn is short, so that few are broken into by other work on the machine.
+const TURN: Duration = Duration::from_micros(400);
+/// What the rounds may take for each work.
+const BUDGET: Duration = Duration::from_millis(130);
+
+/// A piece of work: done so many times, it gives the time that took.
+pub type Work<'a> = Box<dyn Fn(u32) -> Duration + 'a>;
+
+/// How long this thread has waited for a processor so far, which Linux says in nanoseconds; 0 where nothing says it.
+fn waited() -> Duration {
+    let says = read_to_string("/proc/thread-self/schedstat").unwrap_or_default();
+    let nanoseconds = says.split_whitespace().nth(1).and_then(|field| field.parse().ok());
+    Duration::from_nanos(nanoseconds.unwrap_or(0))
+}
+
+/// The time of a work, without what it waited while others had the processor.
+pub fn work<'a, R>(one: impl Fn() -> R + 'a) -> Work<'a> {
+    Box::new(move |times| {
+        let before = waited();
+        let start = Instant::now();
+        for _ in 0..times {
+            black_box(one());
+        }
+        let taken = start.elapsed();
+        taken.saturating_sub(waited().saturating_sub(before))
+    })
+}
+
+/// How many times a work is done in a turn.
+fn times_in_turn(work: &Work) -> u32 {
+    let mut times = 1;
+    while work(times) < TURN && times < 1 << 24 {
+        times *= 2;
+    }
+    times
+}
+
+/// The time of doing each work once, round after round.
+pub struct Rounds(Vec<Vec<f64>>);
+
+impl Rounds {
+    /// At least twelve rounds, however long the works are.
+    pub fn of(works: &[Work]) -> Rounds {
+        let times: Vec<u32> = works.iter().map(times_in_turn).collect();
+        let once = |(work, &times): (&Work, &u32)| work(times).as_secs_f64() / f64::from(times);
+        let start = Instant::now();
+        let mut rounds = Vec::new();
+        while rounds.len() < 12 || start.elapsed() < BUDGET * works.len() as u32 {
+            rounds.push(works.iter().zip(&times).map(once).collect());
+        }
+        Rounds(rounds)
+    }
+
+    /// The lower quartile of a work's times: neither the turns that were broken into nor the luckiest one.
+    fn time(&self, of: usize) -> f64 {
+        let mut times: Vec<f64> = self.0.iter().map(|round| round[of]).collect();
+        times.sort_unstable_by(f64::total_cmp);
+        times[times.len() / 4]
+    }
+
+    /// The time of one work over that of another.
+    pub fn ratio(&self, of: usize, over: usize) -> f64 {
+        self.time(of) / self.time(over)
+    }
+}
