@@ -15,14 +15,16 @@ v and σ are made of the library's greatest values; all other words and figures 
 
 The text, one line for each thing, in this order. '#' begins a comment. Numbers are whole and decimal.
 
-    book version 1 length 23            may be left out: version 1, and the length that it has
+    book version 1                      the line may be left out: version 1; 'length N' may be added
     kind 1 supply 2 reserve 10          1 to 4 kinds of hour: hours for sale, reserve per hour
-    client 1                            1 to 6 clients, standing unless 'withdrawn' or 'status N' follows
+    client 1 standing                   1 to 6 clients; 'standing' may be left out; 'status N' for other bytes
     client 2 withdrawn
     bid 1 client 1 hours 2 amount 90    0 to 48 bids; 'hours' has a number for each kind
-    sheet q 1 s 1 G 20                  G may be left out: 0; 'version' and 'length' may be added
-    winner 0 bid 1 X 70 Z 1 R 0 T 0     in rising order of clients; Z, R and T may be left out: 0
-    set 0 1 Y 1 U 0                     the set of winners 0 and 1; Y and U, or the line, may be left out: 0
+    bid 2 client 2 hours 2 amount 70
+    sheet q 1 s 1 G 20                  G may be left out: 0; 'version N' and 'length N' may be added
+    winner 0 bid 1 X 70 Z 1 R 0 T 0     by rising client, numbered from 0; Z, R and T may be left out: 0
+    set 0 Y 0 U 0                       the set of winner 0, as 'set 0 2' is that of winners 0 and 2;
+                                        Y and U may be left out, and so may the line: 0
 
 The first number of kind, client, bid and winner lines may be left out; where it stands it is the next one.
 Any number that fits its bytes can be written: whether it is in range is for the questions to ask.

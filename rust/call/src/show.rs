@@ -6,6 +6,7 @@ use crate::parts::{book_of, sheet_of, weights_of, BookPart};
 use crate::show_book::book_lines;
 use crate::show_sheet::{balance_lines, sheet_lines};
 use crate::sums::Sums;
+use reference::questions::question_1;
 
 /// The text of a call. Where question 1, 2 or 6 stops it, which and where, and what could be shown.
 pub struct Shown {
@@ -16,8 +17,8 @@ pub struct Shown {
 pub fn show(input: &[u8]) -> Shown {
     let word = library::ask(input);
     let Some(part) = book_of(input) else {
-        let number = if reference::questions::question_1(input) { 2 } else { 1 };
-        return stopped(String::new(), number, input);
+        let number = if question_1(input) { 2 } else { 1 };
+        return stopped(opening(&word), number, input);
     };
     let start = opening(&word) + &book_lines(&part);
     let Some(sheet_part) = sheet_of(&part) else {
@@ -34,10 +35,11 @@ pub fn show(input: &[u8]) -> Shown {
 }
 
 fn stopped(text: String, number: u32, input: &[u8]) -> Shown {
-    let places = explain::places(number, input).join("\n");
+    let places = explain::places(number, input).join("; ");
+    let stop = format!("question {number} stops it: {places}");
     Shown {
-        text,
-        stopped: Some(format!("question {number} stops it: {places}")),
+        text: format!("{text}\n# Nothing more can be shown, for {stop}\n"),
+        stopped: Some(stop),
     }
 }
 
@@ -45,7 +47,7 @@ fn opening(word: &Word) -> String {
     let answer = word.list.replace('\n', "\n#     ");
     format!(
         "# The proved library's answer, which alone counts:\n#     {answer}\n\
-         # The figures after each # are for redoing the sum; '!' marks one that breaks its bound.\n\n"
+         # All else after a # is for redoing the sum; '!' marks a figure that breaks its bound.\n\n"
     )
 }
 
