@@ -4,7 +4,8 @@ use crate::bytes;
 use crate::draft::{sheet_without_winners, Draft, Head};
 use crate::line::Line;
 use crate::number::{number, BYTE, EIGHT_BYTES, FOUR_BYTES, TWO_BYTES};
-use crate::words::{rows, Fault};
+use crate::sums::members;
+use crate::words::{rows, Fault, Word};
 use reference::sheet::sheet_length;
 use reference::{Bid, Multipliers, Sheet, Winner};
 
@@ -64,10 +65,18 @@ impl Reader {
         let known = KEYWORDS.iter().position(|&keyword| keyword == word.text);
         let Some(part) = known else {
             let keywords = KEYWORDS.join(", ");
-            return Err(word.fault(format!("{} begins no line; lines begin with {keywords}", word.quoted())));
+            return Err(word.fault(format!(
+                "{} begins no line; lines begin with {keywords}",
+                word.quoted()
+            )));
         };
         if let Some(last) = self.part.filter(|&last| last > part) {
-            return Err(word.fault(format!("a {} line after a {} line; the order is {}", word.text, KEYWORDS[last], KEYWORDS.join(", "))));
+            return Err(word.fault(format!(
+                "a {} line after a {} line; the order is {}",
+                word.text,
+                KEYWORDS[last],
+                KEYWORDS.join(", ")
+            )));
         }
         if self.part == Some(part) && (part == 0 || part == 4) {
             return Err(word.fault(format!("a second {} line", word.text)));
@@ -99,9 +108,13 @@ impl Reader {
         let standing = line.flag("standing")?;
         let withdrawn = line.flag("withdrawn")?;
         let status = line.one("status", 0, BYTE)?;
-        let said = usize::from(standing.is_some()) + usize::from(withdrawn.is_some()) + usize::from(status.is_some());
+        let said = usize::from(standing.is_some())
+            + usize::from(withdrawn.is_some())
+            + usize::from(status.is_some());
         if said > 1 {
-            return Err(line.keyword.fault("the client line names more than one status"));
+            return Err(line
+                .keyword
+                .fault("the client line names more than one status"));
         }
         let status = status.unwrap_or(i128::from(withdrawn.is_some()));
         self.draft.book.status.push(status);
@@ -126,11 +139,16 @@ impl Reader {
     fn book_fits(&self, line: &Line, count: usize) -> Result<(), Fault> {
         let word = &line.keyword;
         if count as i128 > BYTE {
-            return Err(word.fault(format!("{count} {} lines, and a book has room for {BYTE}", word.text)));
+            return Err(word.fault(format!(
+                "{count} {} lines, and a book has room for {BYTE}",
+                word.text
+            )));
         }
         let length = self.draft.book.length();
         if length as i128 > TWO_BYTES {
-            return Err(word.fault(format!("the book is {length} bytes long here, more than {TWO_BYTES}")));
+            return Err(word.fault(format!(
+                "the book is {length} bytes long here, more than {TWO_BYTES}"
+            )));
         }
         Ok(())
     }
@@ -140,7 +158,9 @@ impl Reader {
         line.allow(&["q", "s", "G", "version", "length"])?;
         let q = line.need("q", FOUR_BYTES)?;
         let s = line.need("s", FOUR_BYTES)?;
-        let g = line.one("G", i64::MIN.into(), i64::MAX.into())?.unwrap_or(0);
+        let g = line
+            .one("G", i64::MIN.into(), i64::MAX.into())?
+            .unwrap_or(0);
         self.draft.sheet = Some((head(line)?, sheet_without_winners(q, s, g)));
         Ok(())
     }
@@ -159,7 +179,9 @@ impl Reader {
         };
         let length = sheet_length(sheet.w() + 1);
         if length as i128 > TWO_BYTES {
-            return Err(line.keyword.fault(format!("the sheet is {length} bytes long here, more than {TWO_BYTES}")));
+            return Err(line.keyword.fault(format!(
+                "the sheet is {length} bytes long here, more than {TWO_BYTES}"
+            )));
         }
         sheet.winners.push(winner);
         sheet.sets.resize(1 << sheet.w(), Multipliers::default());
@@ -168,10 +190,12 @@ impl Reader {
 
     fn set(&mut self, line: &Line) -> Result<(), Fault> {
         let sheet = sheet_of(&mut self.draft, line)?;
-        let set = members(line, sheet.w())?;
-        line.allow(&["Y", "U"])?;
+        line.allow(&["winners", "Y", "U"])?;
+        let set = set_named(line, sheet.w())?;
         if let Some((_, earlier)) = self.sets.iter().find(|(other, _)| *other == set) {
-            return Err(line.keyword.fault(format!("this set has a line already, line {earlier}")));
+            return Err(line
+                .keyword
+                .fault(format!("this set has a line already, line {earlier}")));
         }
         self.sets.push((set, line.keyword.line));
         sheet.sets[set] = Multipliers {
@@ -192,17 +216,57 @@ fn head(line: &Line) -> Result<Head, Fault> {
 fn sheet_of<'a>(draft: &'a mut Draft, line: &Line) -> Result<&'a mut Sheet, Fault> {
     match &mut draft.sheet {
         Some((_, sheet)) => Ok(sheet),
-        None => Err(line.keyword.fault(format!("a {} line before the sheet line", line.keyword.text))),
+        None => Err(line.keyword.fault(format!(
+            "a {} line before the sheet line",
+            line.keyword.text
+        ))),
     }
 }
 
-/// The number of the set of the winners that a set line names.
-fn members(line: &Line, w: usize) -> Result<usize, Fault> {
+/// The set that a line names, by its number, by its winners or by both.
+fn set_named(line: &Line, w: usize) -> Result<usize, Fault> {
+    let by_winners = match line.values("winners") {
+        Some((name, values)) => Some(set_of(name, values, w)?),
+        None => None,
+    };
+    let Some(word) = line.own_number()? else {
+        let names_none = || {
+            line.keyword
+                .fault("the set line names no set: its number or 'winners' is missing")
+        };
+        return by_winners.ok_or_else(names_none);
+    };
+    let last = (1_usize << w) - 1;
+    let set = number(word, 0, i128::MAX)?;
+    match usize::try_from(set) {
+        Ok(set) if (1..=last).contains(&set) => agreed(word, set, by_winners, w),
+        _ => Err(word.fault(format!(
+            "there is no set {}; with {w} winners their numbers end at {last}",
+            word.quoted()
+        ))),
+    }
+}
+
+/// A set's number, where the winners named beside it are its own.
+fn agreed(word: &Word, set: usize, by_winners: Option<usize>, w: usize) -> Result<usize, Fault> {
+    match by_winners.filter(|&other| other != set) {
+        None => Ok(set),
+        Some(_) => Err(word.fault(format!(
+            "set {set} has the winners {}, and not those named here",
+            members(set, w)
+        ))),
+    }
+}
+
+/// The set of these winners.
+fn set_of(name: &Word, values: &[Word], w: usize) -> Result<usize, Fault> {
     let mut set = 0;
-    for word in &line.own {
+    for word in values {
         let winner = number(word, 0, BYTE)?;
         if winner >= w as i128 {
-            return Err(word.fault(format!("there is no winner {winner}; they are numbered from 0, and there are {w}")));
+            return Err(word.fault(format!(
+                "there is no winner {winner}; they are numbered from 0, and there are {w}"
+            )));
         }
         if set >> winner & 1 == 1 {
             return Err(word.fault(format!("winner {winner} stands twice")));
@@ -210,7 +274,7 @@ fn members(line: &Line, w: usize) -> Result<usize, Fault> {
         set |= 1 << winner;
     }
     match set {
-        0 => Err(line.keyword.fault("the set line names no winner")),
+        0 => Err(name.fault("no winner stands after 'winners'")),
         _ => Ok(set),
     }
 }

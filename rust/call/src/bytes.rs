@@ -48,7 +48,10 @@ fn put_book(bytes: &mut Vec<u8>, head: Head, book: &Book) {
 fn put_sheet(bytes: &mut Vec<u8>, head: Head, sheet: &Sheet) {
     put_head(bytes, head, sheet_length(sheet.w()));
     put_count(bytes, sheet.w());
-    sheet.winners.iter().for_each(|winner| put_count(bytes, winner.bid));
+    sheet
+        .winners
+        .iter()
+        .for_each(|winner| put_count(bytes, winner.bid));
     put(bytes, sheet.q, 4);
     put(bytes, sheet.s, 4);
     for winner in &sheet.winners {

@@ -20,7 +20,9 @@ pub fn run(words: &[String]) -> u8 {
     }
     match words[..] {
         ["assemble", file] if is_file(file) => assemble_file(file, None),
-        ["assemble", file, "-o", out] | ["assemble", "-o", out, file] if is_file(file) => assemble_file(file, Some(out)),
+        ["assemble", file, "-o", out] | ["assemble", "-o", out, file] if is_file(file) => {
+            assemble_file(file, Some(out))
+        }
         ["show", file] if is_file(file) => show_file(file),
         ["explain", file] if is_file(file) => explain_file(file),
         _ => {
@@ -59,7 +61,11 @@ fn with_file(file: &str, then: impl Fn(Contents) -> u8) -> u8 {
 fn assemble_file(file: &str, out: Option<&str>) -> u8 {
     with_file(file, |contents| {
         if contents.cut {
-            complain(&format!("{} is longer than {} bytes, which no text of a call is", told(file), files::MOST));
+            complain(&format!(
+                "{} is longer than {} bytes, which no text of a call is",
+                told(file),
+                files::MOST
+            ));
             return WRONG;
         }
         match assemble(&contents.bytes) {
@@ -76,7 +82,11 @@ fn show_file(file: &str) -> u8 {
     with_file(file, |contents| {
         tell_cut(file, &contents);
         let shown = show(&contents.bytes);
-        let status = if shown.stopped.is_some() { REFUSED } else { DONE };
+        let status = if shown.stopped.is_some() {
+            REFUSED
+        } else {
+            DONE
+        };
         let status = put(None, shown.text.as_bytes(), status);
         if let Some(stopped) = shown.stopped {
             complain(&format!("{}: {stopped}", told(file)));
@@ -97,6 +107,10 @@ fn explain_file(file: &str) -> u8 {
 /// The longest call has 1,406 bytes, so what is cut off changes no answer.
 fn tell_cut(file: &str, contents: &Contents) {
     if contents.cut {
-        complain(&format!("{} is longer than any call; only its first {} bytes are read, and counted", told(file), files::MOST));
+        complain(&format!(
+            "{} is longer than any call; only its first {} bytes are read, and counted",
+            told(file),
+            files::MOST
+        ));
     }
 }

@@ -47,7 +47,9 @@ fn refusal(input: &[u8], number: u32) -> String {
     let asked = question(number).unwrap_or("");
     let found = places(number, input);
     let found = match found.is_empty() {
-        true => vec!["the second implementation finds nothing wrong with this question".to_string()],
+        true => {
+            vec!["the second implementation finds nothing wrong with this question".to_string()]
+        }
         false => found,
     };
     format!(
@@ -122,7 +124,10 @@ fn prices(input: &[u8], word: &Word) -> String {
         return String::new();
     };
     let winners = sheet.sheet.winners.iter().zip(word.prices);
-    let mut text = format!("Accepted: all fifteen questions are answered yes. Prices are over {}.\n", word.q);
+    let mut text = format!(
+        "Accepted: all fifteen questions are answered yes. Prices are over {}.\n",
+        word.q
+    );
     for (winner, price) in winners {
         let Some(bid) = part.book.bid(winner.bid) else {
             continue;

@@ -32,8 +32,11 @@ fn read_from(source: impl Read) -> io::Result<Contents> {
 /// Writes a file, or standard output where there is no name.
 pub fn write(name: Option<&str>, bytes: &[u8]) -> Result<(), String> {
     match name {
-        Some(name) => fs::write(name, bytes).map_err(|error| format!("{} cannot be written: {error}", told(name))),
-        None => write_out(bytes).map_err(|error| format!("standard output cannot be written: {error}")),
+        Some(name) => fs::write(name, bytes)
+            .map_err(|error| format!("{} cannot be written: {error}", told(name))),
+        None => {
+            write_out(bytes).map_err(|error| format!("standard output cannot be written: {error}"))
+        }
     }
 }
 

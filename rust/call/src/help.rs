@@ -23,7 +23,7 @@ The text, one line for each thing, in this order. '#' begins a comment. Numbers 
     bid 2 client 2 hours 2 amount 70
     sheet q 1 s 1 G 20                  G may be left out: 0; 'version N' and 'length N' may be added
     winner 0 bid 1 X 70 Z 1 R 0 T 0     by rising client, numbered from 0; Z, R and T may be left out: 0
-    set 0 Y 0 U 0                       the set of winner 0, as 'set 0 2' is that of winners 0 and 2;
+    set 1 winners 0 Y 0 U 0             a set of winners; its number or 'winners' may be left out;
                                         Y and U may be left out, and so may the line: 0
 
 The first number of kind, client, bid and winner lines may be left out; where it stands it is the next one.

@@ -6,7 +6,7 @@ use crate::words::{Fault, Row, Word};
 pub struct Line {
     pub keyword: Word,
     /// The numbers right after the keyword.
-    pub own: Vec<Word>,
+    own: Vec<Word>,
     fields: Vec<Field>,
     end: usize,
 }
@@ -63,7 +63,10 @@ impl Line {
                     names.join(", ")
                 )));
             }
-            if self.fields[..at].iter().any(|other| other.name.text == name.text) {
+            if self.fields[..at]
+                .iter()
+                .any(|other| other.name.text == name.text)
+            {
                 return Err(name.fault(format!("{} stands twice", name.quoted())));
             }
         }
@@ -72,6 +75,12 @@ impl Line {
 
     fn field(&self, name: &str) -> Option<&Field> {
         self.fields.iter().find(|field| field.name.text == name)
+    }
+
+    /// A field's name and its numbers, where it stands in the line.
+    pub fn values(&self, name: &str) -> Option<(&Word, &[Word])> {
+        let field = self.field(name)?;
+        Some((&field.name, &field.values))
     }
 
     /// Whether a word without numbers stands in the line.
@@ -102,7 +111,13 @@ impl Line {
     }
 
     /// The numbers of a field that must be there, so many of them.
-    pub fn run(&self, name: &str, count: usize, expected: &str, most: i128) -> Result<Vec<i128>, Fault> {
+    pub fn run(
+        &self,
+        name: &str,
+        count: usize,
+        expected: &str,
+        most: i128,
+    ) -> Result<Vec<i128>, Fault> {
         let field = self.field(name).ok_or_else(|| self.missing(name))?;
         numbers_of(field, count, expected, 0, most)
     }
@@ -111,18 +126,28 @@ impl Line {
         self.fault_at_end(format!("the {} line has no '{name}'", self.keyword.text))
     }
 
+    /// The number right after the keyword, where there is one. There are not two.
+    pub fn own_number(&self) -> Result<Option<&Word>, Fault> {
+        match self.own.get(1) {
+            None => Ok(self.own.first()),
+            Some(second) => {
+                Err(second.fault(format!("a second number after '{}'", self.keyword.text)))
+            }
+        }
+    }
+
     /// The line's own number, which may be left out, and is the next where it stands.
     pub fn follows(&self, next: usize) -> Result<(), Fault> {
-        let Some(word) = self.own.first() else {
+        let Some(word) = self.own_number()? else {
             return Ok(());
         };
         let keyword = &self.keyword.text;
-        if let Some(second) = self.own.get(1) {
-            return Err(second.fault(format!("a second number after '{keyword}'")));
-        }
         match number(word, 0, i128::MAX)? == next as i128 {
             true => Ok(()),
-            false => Err(word.fault(format!("{} where {keyword} {next} comes next", word.quoted()))),
+            false => Err(word.fault(format!(
+                "{} where {keyword} {next} comes next",
+                word.quoted()
+            ))),
         }
     }
 
@@ -130,18 +155,34 @@ impl Line {
     pub fn no_own(&self) -> Result<(), Fault> {
         match self.own.first() {
             None => Ok(()),
-            Some(word) => Err(word.fault(format!("no number stands right after '{}'", self.keyword.text))),
+            Some(word) => Err(word.fault(format!(
+                "no number stands right after '{}'",
+                self.keyword.text
+            ))),
         }
     }
 }
 
-fn numbers_of(field: &Field, count: usize, expected: &str, least: i128, most: i128) -> Result<Vec<i128>, Fault> {
+fn numbers_of(
+    field: &Field,
+    count: usize,
+    expected: &str,
+    least: i128,
+    most: i128,
+) -> Result<Vec<i128>, Fault> {
     let name = &field.name.text;
     if let Some(extra) = field.values.get(count) {
         return Err(extra.fault(format!("'{name}' takes {expected}")));
     }
     if field.values.len() < count {
-        return Err(field.name.fault(format!("'{name}' takes {expected}, and {} stand here", field.values.len())));
+        return Err(field.name.fault(format!(
+            "'{name}' takes {expected}, and {} stand here",
+            field.values.len()
+        )));
     }
-    field.values.iter().map(|value| number(value, least, most)).collect()
+    field
+        .values
+        .iter()
+        .map(|value| number(value, least, most))
+        .collect()
 }

@@ -21,10 +21,16 @@ pub fn number(word: &Word, least: i128, most: i128) -> Result<i128, Fault> {
     let size: i128 = digits.parse().unwrap_or(i128::MAX);
     let value = if minus { -size } else { size };
     if value > most {
-        return Err(word.fault(format!("{} is more than {most}, the most that fits here", word.quoted())));
+        return Err(word.fault(format!(
+            "{} is more than {most}, the most that fits here",
+            word.quoted()
+        )));
     }
     if value < least {
-        return Err(word.fault(format!("{} is less than {least}, the least that fits here", word.quoted())));
+        return Err(word.fault(format!(
+            "{} is less than {least}, the least that fits here",
+            word.quoted()
+        )));
     }
     Ok(value)
 }

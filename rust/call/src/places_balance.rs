@@ -18,8 +18,14 @@ impl About<'_> {
             return Vec::new();
         }
         let bids = numbers(&self.sums.sheet.bids());
-        let mut places = vec![format!("the winners' bids ({bids}) are worth {}, {short} less than v, which is {v}", v - short)];
-        places.extend(self.worth_v().map(|bids| format!("worth {v} together are the bids {bids}")));
+        let mut places = vec![format!(
+            "the winners' bids ({bids}) are worth {}, {short} less than v, which is {v}",
+            v - short
+        )];
+        places.extend(
+            self.worth_v()
+                .map(|bids| format!("worth {v} together are the bids {bids}")),
+        );
         places
     }
 
@@ -75,7 +81,11 @@ impl About<'_> {
             let short = -self.sums.cover_slack(j);
             let (z, y) = (self.sums.sheet.winners[j].z, self.sums.y_of_sets(j));
             (short > 0).then(|| {
-                format!("Z {z} and the Y of its sets, {y}, make {}, {short} less than s, which is {}", z + y, self.sums.sheet.s)
+                format!(
+                    "Z {z} and the Y of its sets, {y}, make {}, {short} less than s, which is {}",
+                    z + y,
+                    self.sums.sheet.s
+                )
             })
         })
     }
@@ -92,7 +102,10 @@ impl About<'_> {
             false => ("second", t.right - t.left),
         };
         let mut places = vec![
-            format!("q (sum of Y σ + sum of Z ρ) = {q} × ({} + {}) = {}", t.of_sets, t.of_winners, t.left),
+            format!(
+                "q (sum of Y σ + sum of Z ρ) = {q} × ({} + {}) = {}",
+                t.of_sets, t.of_winners, t.left
+            ),
             format!("s (sum of X) = {s} × {} = {}", t.discounts, t.right),
             format!("the {more} is {by} more; the terms of the first that are not zero:"),
         ];
@@ -102,11 +115,17 @@ impl About<'_> {
 
     fn terms(&self) -> Vec<String> {
         let (sheet, weights) = (self.sums.sheet, self.sums.weights);
-        let sets = sheet.set_numbers().filter(|&set| sheet.sets[set].y * weights.sigma[set] != 0);
+        let sets = sheet
+            .set_numbers()
+            .filter(|&set| sheet.sets[set].y * weights.sigma[set] != 0);
         let winners = (0..sheet.w()).filter(|&j| sheet.winners[j].z * weights.rho[j] != 0);
         let of_sets = sets.map(|set| {
             let (y, sigma) = (sheet.sets[set].y, weights.sigma[set]);
-            format!("  {}: Y {y} × σ {sigma} = {}", self.set_name(set), y * sigma)
+            format!(
+                "  {}: Y {y} × σ {sigma} = {}",
+                self.set_name(set),
+                y * sigma
+            )
         });
         let of_winners = winners.map(|j| {
             let (z, rho) = (sheet.winners[j].z, weights.rho[j]);
@@ -141,7 +160,8 @@ impl About<'_> {
         let of_sets = sheet.set_numbers().filter_map(|set| {
             let (u, slack) = (sheet.sets[set].u, self.sums.set_slack(set));
             let name = self.set_name(set);
-            (u != 0 && slack != 0).then(|| format!("{name}: U is {u}, but the sum of X is {slack} less than q σ"))
+            (u != 0 && slack != 0)
+                .then(|| format!("{name}: U is {u}, but the sum of X is {slack} less than q σ"))
         });
         let of_reserves = self.winners(|j| {
             let (r, slack) = (sheet.winners[j].r, self.sums.reserve_slack(j));
@@ -157,7 +177,9 @@ impl About<'_> {
     /// What is found for each winner, after its name.
     fn winners(&self, found: impl Fn(usize) -> Option<String>) -> Vec<String> {
         let winners = 0..self.sums.sheet.w();
-        winners.filter_map(|j| Some(format!("{}: {}", self.winner_name(j), found(j)?))).collect()
+        winners
+            .filter_map(|j| Some(format!("{}: {}", self.winner_name(j), found(j)?)))
+            .collect()
     }
 
     fn winner_name(&self, j: usize) -> String {
@@ -178,6 +200,10 @@ impl About<'_> {
 fn numbers(bids: &[usize]) -> String {
     match bids.is_empty() {
         true => "none".to_string(),
-        false => bids.iter().map(|bid| bid.to_string()).collect::<Vec<_>>().join(", "),
+        false => bids
+            .iter()
+            .map(|bid| bid.to_string())
+            .collect::<Vec<_>>()
+            .join(", "),
     }
 }

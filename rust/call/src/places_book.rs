@@ -13,9 +13,30 @@ pub fn ranges(part: &BookPart) -> Vec<String> {
     let reserves = book.reserve.iter().enumerate();
     let statuses = book.status.iter().enumerate();
     let mut places: Vec<Option<String>> = Vec::new();
-    places.extend(supplies.map(|(k, &supply)| place(at.supply(k), format!("the supply of kind {}", k + 1), supply, 200)));
-    places.extend(reserves.map(|(k, &reserve)| place(at.reserve(k), format!("the reserve of kind {}", k + 1), reserve, 10_000)));
-    places.extend(statuses.map(|(c, &status)| place(at.status(c), format!("the status of client {}", c + 1), status, 1)));
+    places.extend(supplies.map(|(k, &supply)| {
+        place(
+            at.supply(k),
+            format!("the supply of kind {}", k + 1),
+            supply,
+            200,
+        )
+    }));
+    places.extend(reserves.map(|(k, &reserve)| {
+        place(
+            at.reserve(k),
+            format!("the reserve of kind {}", k + 1),
+            reserve,
+            10_000,
+        )
+    }));
+    places.extend(statuses.map(|(c, &status)| {
+        place(
+            at.status(c),
+            format!("the status of client {}", c + 1),
+            status,
+            1,
+        )
+    }));
     places.into_iter().flatten().collect()
 }
 
@@ -33,20 +54,32 @@ fn bid_places(part: &BookPart, place: usize) -> Vec<String> {
     let n = part.book.status.len() as i128;
     let mut places = Vec::new();
     if let Some(by) = outside(bid.client as i128, 1, n) {
-        places.push(format!("byte {}, the client of bid {number}, is {by}; the clients are 1 to {n}", part.at.bid(place)));
+        places.push(format!(
+            "byte {}, the client of bid {number}, is {by}; the clients are 1 to {n}",
+            part.at.bid(place)
+        ));
     }
     if bid.hours.iter().all(|&hours| hours == 0) {
-        places.push(format!("byte {}: bid {number} asks for no hour of any kind", part.at.hours(place, 0)));
+        places.push(format!(
+            "byte {}: bid {number} asks for no hour of any kind",
+            part.at.hours(place, 0)
+        ));
     }
     if let Some(by) = outside(bid.amount, 1, 1_000_000) {
-        places.push(format!("byte {}, the amount of bid {number}, is {by}", part.at.amount(place)));
+        places.push(format!(
+            "byte {}, the amount of bid {number}, is {by}",
+            part.at.amount(place)
+        ));
     }
     places
 }
 
 fn too_many(part: &BookPart, client: usize) -> Option<String> {
     let bids = part.book.bids.iter().enumerate();
-    let own: Vec<usize> = bids.filter(|(_, bid)| bid.client == client).map(|(at, _)| at).collect();
+    let own: Vec<usize> = bids
+        .filter(|(_, bid)| bid.client == client)
+        .map(|(at, _)| at)
+        .collect();
     let &ninth = own.get(8)?;
     Some(format!(
         "client {client} has {} bids, {} more than 8; the ninth is bid {}, at byte {}",

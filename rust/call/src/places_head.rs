@@ -9,11 +9,18 @@ use reference::sheet::sheet_length;
 pub fn first_bytes(input: &[u8]) -> Vec<String> {
     let mut places = Vec::new();
     if input.len() < 3 {
-        places.push(format!("byte {} is missing: there are {}, {} too few", input.len(), bytes(input.len()), 3 - input.len()));
+        places.push(format!(
+            "byte {} is missing: there are {}, {} too few",
+            input.len(),
+            bytes(input.len()),
+            3 - input.len()
+        ));
     }
     match input.first() {
         Some(1) | None => {}
-        Some(version) => places.push(format!("byte 0, the book's version, is {version} and must be 1")),
+        Some(version) => places.push(format!(
+            "byte 0, the book's version, is {version} and must be 1"
+        )),
     }
     places
 }
@@ -35,7 +42,9 @@ fn wrong_book(input: &[u8]) -> Option<String> {
     let count = |at: usize, name: &str, least: i128, most: i128| {
         let inside = input.get(..length).and_then(|book| book.get(at));
         let Some(&count) = inside else {
-            return Err(format!("byte {at}, {name}, is outside the book, whose {length} bytes end before it"));
+            return Err(format!(
+                "byte {at}, {name}, is outside the book, whose {length} bytes end before it"
+            ));
         };
         match outside(count.into(), least, most) {
             Some(by) => Err(format!("byte {at}, {name}, is {by}")),
@@ -57,7 +66,9 @@ fn wrong_book(input: &[u8]) -> Option<String> {
 fn wrong_length(length: usize, k: usize, n: usize, m: usize) -> Option<String> {
     let formula = 6 + 3 * k + n + m * (k + 5);
     let by = outside(length as i128, formula as i128, formula as i128)?;
-    Some(format!("byte 1, the length of the book, is {by}, its length with K {k}, n {n} and m {m}"))
+    Some(format!(
+        "byte 1, the length of the book, is {by}, its length with K {k}, n {n} and m {m}"
+    ))
 }
 
 /// Question 6: the first that is wrong.
@@ -75,14 +86,25 @@ fn wrong_sheet(part: &BookPart) -> Option<String> {
         ));
     };
     if version != 1 {
-        return Some(format!("byte {start}, the sheet's version, is {version} and must be 1"));
+        return Some(format!(
+            "byte {start}, the sheet's version, is {version} and must be 1"
+        ));
     }
     if let Some(by) = outside(w.into(), 0, part.book.status.len() as i128) {
-        return Some(format!("byte {}, w, is {by}, the number of clients", start + 3));
+        return Some(format!(
+            "byte {}, w, is {by}, the number of clients",
+            start + 3
+        ));
     }
-    let (length, formula) = (usize::from(high) * 256 + usize::from(low), sheet_length(w.into()));
+    let (length, formula) = (
+        usize::from(high) * 256 + usize::from(low),
+        sheet_length(w.into()),
+    );
     if let Some(by) = outside(length as i128, formula as i128, formula as i128) {
-        return Some(format!("byte {}, the length of the sheet, is {by}, its length with w {w}", start + 1));
+        return Some(format!(
+            "byte {}, the length of the sheet, is {by}, its length with w {w}",
+            start + 1
+        ));
     }
     wrong_end(rest.len(), start, length)
 }
@@ -90,10 +112,17 @@ fn wrong_sheet(part: &BookPart) -> Option<String> {
 fn wrong_end(there: usize, start: usize, length: usize) -> Option<String> {
     let end = start + length;
     if there < length {
-        return Some(format!("byte {} is missing: the sheet is {} too short", start + there, bytes(length - there)));
+        return Some(format!(
+            "byte {} is missing: the sheet is {} too short",
+            start + there,
+            bytes(length - there)
+        ));
     }
     match there - length {
         0 => None,
-        more => Some(format!("byte {end} is past the end of the sheet: {} too many", bytes(more))),
+        more => Some(format!(
+            "byte {end} is past the end of the sheet: {} too many",
+            bytes(more)
+        )),
     }
 }

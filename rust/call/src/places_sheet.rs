@@ -56,11 +56,16 @@ fn winner_place(book: &Book, part: &SheetPart, j: usize) -> Option<String> {
     let start = format!("byte {}, the bid number of winner {j},", part.at.bid(j));
     let Some(bid) = book.bid(number) else {
         let by = outside(number as i128, 1, book.bids.len() as i128)?;
-        return Some(format!("{start} is {by}; the bids are 1 to {}", book.bids.len()));
+        return Some(format!(
+            "{start} is {by}; the bids are 1 to {}",
+            book.bids.len()
+        ));
     };
     let client = bid.client;
     if !book.is_standing(client) {
-        return Some(format!("{start} is {number}, a bid of client {client}, which is withdrawn"));
+        return Some(format!(
+            "{start} is {number}, a bid of client {client}, which is withdrawn"
+        ));
     }
     let before = part.sheet.winners[..j].last()?;
     let earlier = book.bid(before.bid)?.client;
@@ -70,7 +75,11 @@ fn winner_place(book: &Book, part: &SheetPart, j: usize) -> Option<String> {
 }
 
 fn overdrawn(book: &Book, part: &SheetPart, kind: usize) -> Option<String> {
-    let bids = part.sheet.winners.iter().filter_map(|winner| book.bid(winner.bid));
+    let bids = part
+        .sheet
+        .winners
+        .iter()
+        .filter_map(|winner| book.bid(winner.bid));
     let hours: i128 = bids.map(|bid| bid.hours[kind]).sum();
     let over = hours - book.supply[kind];
     (over > 0).then(|| {

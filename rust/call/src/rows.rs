@@ -10,7 +10,12 @@ impl Rows {
     }
 
     pub fn text(&self) -> String {
-        let width = self.0.iter().map(|(line, _)| line.chars().count()).max().unwrap_or(0);
+        let width = self
+            .0
+            .iter()
+            .map(|(line, _)| line.chars().count())
+            .max()
+            .unwrap_or(0);
         let row = |(line, comment): &(String, String)| match comment.is_empty() {
             true => format!("{line}\n"),
             false => format!("{line:width$}  # {comment}\n"),

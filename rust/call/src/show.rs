@@ -31,7 +31,10 @@ pub fn show(input: &[u8]) -> Shown {
         + &value_line(input, &part, sums.as_ref())
         + &sheet_lines(&part.book, sheet, sums.as_ref(), &word)
         + &sums.map_or(String::new(), |sums| balance_lines(&sums));
-    Shown { text, stopped: None }
+    Shown {
+        text,
+        stopped: None,
+    }
 }
 
 fn stopped(text: String, number: u32, input: &[u8]) -> Shown {
@@ -57,11 +60,16 @@ fn value_line(input: &[u8], part: &BookPart, sums: Option<&Sums>) -> String {
         return "\n# The book is not sound, so there is no v, σ or balance.\n".to_string();
     };
     match sums {
-        None => format!("\n# v = {v}. The winners are no combination, so there is no σ or balance.\n"),
+        None => {
+            format!("\n# v = {v}. The winners are no combination, so there is no σ or balance.\n")
+        }
         Some(sums) => {
             let short = sums.short_of_v(&part.book);
             let mark = if short == 0 { "" } else { " !" };
-            format!("\n# 9: v = {v}; the winners' amounts make {}, {short} less{mark}\n", v - short)
+            format!(
+                "\n# 9: v = {v}; the winners' amounts make {}, {short} less{mark}\n",
+                v - short
+            )
         }
     }
 }

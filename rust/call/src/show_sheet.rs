@@ -18,11 +18,23 @@ pub fn sheet_lines(book: &Book, sheet: &Sheet, sums: Option<&Sums>, word: &Word)
     let mut sets = Rows::default();
     for set in sheet.set_numbers() {
         let of = &sheet.sets[set];
-        let line = format!("set {} Y {} U {}", members(set, sheet.w()), of.y, of.u);
-        sets.add(line, sums.map_or(format!("set {set}"), |sums| set_comment(sums, set)));
+        let line = format!(
+            "set {set} winners {} Y {} U {}",
+            members(set, sheet.w()),
+            of.y,
+            of.u
+        );
+        sets.add(
+            line,
+            sums.map_or(String::new(), |sums| set_comment(sums, set)),
+        );
     }
     let (q, s, g) = (sheet.q, sheet.s, sheet.g);
-    format!("\nsheet q {q} s {s} G {g}\n\n{}\n{}", winners.text(), sets.text())
+    format!(
+        "\nsheet q {q} s {s} G {g}\n\n{}\n{}",
+        winners.text(),
+        sets.text()
+    )
 }
 
 /// The winner's client and amount, and its price where the library has accepted the call.
@@ -41,7 +53,7 @@ fn set_comment(sums: &Sums, set: usize) -> String {
     let (v, sigma) = (sums.weights.v, sums.weights.sigma[set]);
     let slack = sums.set_slack(set);
     format!(
-        "set {set}: σ = {v} - {} = {sigma}; slack = {} × {sigma} - {} = {slack}{}",
+        "σ = {v} - {} = {sigma}; slack = {} × {sigma} - {} = {slack}{}",
         v - sigma,
         sums.sheet.q,
         sums.sheet.x_sum(set),
@@ -68,7 +80,9 @@ pub fn balance_lines(sums: &Sums) -> String {
 
 fn by_winner(sums: &Sums, line: fn(&Sums, usize) -> String) -> String {
     let winners = 0..sums.sheet.w();
-    winners.map(|j| format!("#     winner {j}: {}\n", line(sums, j))).collect()
+    winners
+        .map(|j| format!("#     winner {j}: {}\n", line(sums, j)))
+        .collect()
 }
 
 fn reserve_line(sums: &Sums, j: usize) -> String {
@@ -130,10 +144,17 @@ fn standing_line(sums: &Sums, j: usize) -> String {
 /// The sets whose U is not zero.
 fn pairs_of_sets(sums: &Sums) -> String {
     let mut text = String::new();
-    let with_u = sums.sheet.set_numbers().filter(|&set| sums.sheet.sets[set].u != 0);
+    let with_u = sums
+        .sheet
+        .set_numbers()
+        .filter(|&set| sums.sheet.sets[set].u != 0);
     for set in with_u {
         let (u, slack) = (sums.sheet.sets[set].u, sums.set_slack(set));
-        let _ = writeln!(text, "#     set {set}: U {u} and {slack}{}", mark(slack != 0));
+        let _ = writeln!(
+            text,
+            "#     set {set}: U {u} and {slack}{}",
+            mark(slack != 0)
+        );
     }
     text
 }

@@ -58,8 +58,13 @@ impl Sums<'_> {
     /// Question 13.
     pub fn totals(&self) -> Totals {
         let (sheet, weights) = (self.sheet, self.weights);
-        let of_sets: i128 = sheet.set_numbers().map(|set| sheet.sets[set].y * weights.sigma[set]).sum();
-        let of_winners: i128 = (0..sheet.w()).map(|j| sheet.winners[j].z * weights.rho[j]).sum();
+        let of_sets: i128 = sheet
+            .set_numbers()
+            .map(|set| sheet.sets[set].y * weights.sigma[set])
+            .sum();
+        let of_winners: i128 = (0..sheet.w())
+            .map(|j| sheet.winners[j].z * weights.rho[j])
+            .sum();
         let discounts: i128 = sheet.winners.iter().map(|winner| winner.x).sum();
         Totals {
             of_sets,
@@ -89,6 +94,9 @@ impl Sums<'_> {
 
 /// The winners of a set, with a blank between them.
 pub fn members(set: usize, w: usize) -> String {
-    let members: Vec<String> = (0..w).filter(|&k| holds(set, k)).map(|k| k.to_string()).collect();
+    let members: Vec<String> = (0..w)
+        .filter(|&k| holds(set, k))
+        .map(|k| k.to_string())
+        .collect();
     members.join(" ")
 }

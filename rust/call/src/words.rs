@@ -27,7 +27,11 @@ pub struct Fault {
 
 impl fmt::Display for Fault {
     fn fmt(&self, out: &mut fmt::Formatter) -> fmt::Result {
-        write!(out, "line {}, column {}: {}", self.line, self.column, self.what)
+        write!(
+            out,
+            "line {}, column {}: {}",
+            self.line, self.column, self.what
+        )
     }
 }
 
@@ -44,13 +48,18 @@ impl Word {
     /// The word as a message quotes it: short, and without odd characters.
     pub fn quoted(&self) -> String {
         let start: String = self.text.chars().take(30).collect();
-        let more = if start.len() < self.text.len() { "..." } else { "" };
+        let more = if start.len() < self.text.len() {
+            "..."
+        } else {
+            ""
+        };
         format!("'{}{more}'", start.escape_debug())
     }
 
     /// Whether it stands where a number stands.
     pub fn is_value(&self) -> bool {
-        self.text.starts_with(|c: char| c.is_ascii_digit() || c == '-' || c == '+')
+        self.text
+            .starts_with(|c: char| c.is_ascii_digit() || c == '-' || c == '+')
     }
 }
 
@@ -91,6 +100,8 @@ fn row(line: &str, number: usize) -> Row {
         }
         inside = !blank;
     }
-    let end = words.last().map_or(1, |word| word.column + word.text.chars().count());
+    let end = words
+        .last()
+        .map_or(1, |word| word.column + word.text.chars().count());
     Row { words, end }
 }

@@ -22,7 +22,11 @@ fn run(words: &[&str]) -> (i32, Vec<u8>, String) {
 
 fn told(output: Output) -> (i32, Vec<u8>, String) {
     let status = output.status.code().expect("no signal");
-    (status, output.stdout, String::from_utf8(output.stderr).unwrap())
+    (
+        status,
+        output.stdout,
+        String::from_utf8(output.stderr).unwrap(),
+    )
 }
 
 fn run_with_input(words: &[&str], input: &[u8]) -> (i32, Vec<u8>, String) {
@@ -53,9 +57,15 @@ fn from_standard_input_and_to_a_file() {
     assert_eq!(run_with_input(&["assemble", "-"], &text).1, call);
     let out = std::env::temp_dir().join(format!("spring-{}.call", std::process::id()));
     let name = out.to_str().unwrap();
-    assert_eq!(run(&["assemble", "examples/spring.txt", "-o", name]), (0, vec![], String::new()));
+    assert_eq!(
+        run(&["assemble", "examples/spring.txt", "-o", name]),
+        (0, vec![], String::new())
+    );
     assert_eq!(fs::read(&out).unwrap(), call);
-    assert_eq!(run(&["assemble", "-o", name, "examples/spring-stale.txt"]).0, 0);
+    assert_eq!(
+        run(&["assemble", "-o", name, "examples/spring-stale.txt"]).0,
+        0
+    );
     assert_ne!(fs::read(&out).unwrap(), call);
     fs::remove_file(&out).unwrap();
     let (status, shown, _) = run_with_input(&["show", "-"], &call);
@@ -73,8 +83,15 @@ fn statuses() {
     assert_eq!(errors, "call: calls/byte-too-many.call: question 6 stops it: byte 144 is past the end of the sheet: 1 byte too many\n");
     let (status, out, errors) = run_with_input(&["assemble", "-"], b"kind 1 supply 2\n");
     assert_eq!((status, out), (2, vec![]));
-    assert_eq!(errors, "call: standard input, line 1, column 16: the kind line has no 'reserve'\n");
-    for words in [&["show", "no such file"][..], &["assemble", "no\nsuch"], &["explain", "calls"]] {
+    assert_eq!(
+        errors,
+        "call: standard input, line 1, column 16: the kind line has no 'reserve'\n"
+    );
+    for words in [
+        &["show", "no such file"][..],
+        &["assemble", "no\nsuch"],
+        &["explain", "calls"],
+    ] {
         let (status, out, errors) = run(words);
         assert_eq!((status, out), (3, vec![]), "{errors}");
         assert_eq!(errors.lines().count(), 1, "{errors}");
@@ -83,7 +100,15 @@ fn statuses() {
 
 #[test]
 fn wrong_command_lines() {
-    let lines: [&[&str]; 7] = [&[], &["judge"], &["show"], &["show", "a", "b"], &["show", "--all"], &["assemble", "a", "-o"], &["assemble", "-x", "a", "b"]];
+    let lines: [&[&str]; 7] = [
+        &[],
+        &["judge"],
+        &["show"],
+        &["show", "a", "b"],
+        &["show", "--all"],
+        &["assemble", "a", "-o"],
+        &["assemble", "-x", "a", "b"],
+    ];
     for words in lines {
         let (status, out, errors) = run(words);
         assert_eq!((status, out), (2, vec![]), "{words:?}");
@@ -96,7 +121,13 @@ fn help() {
     let (status, out, errors) = run(&["--help"]);
     let out = String::from_utf8(out).unwrap();
     assert_eq!((status, errors.as_str()), (0, ""));
-    for word in ["assemble FILE [-o OUT]", "show FILE", "explain FILE", "never decides", "Exit status"] {
+    for word in [
+        "assemble FILE [-o OUT]",
+        "show FILE",
+        "explain FILE",
+        "never decides",
+        "Exit status",
+    ] {
         assert!(out.contains(word), "{word}");
     }
     assert_eq!(run(&["show", "--help"]).1, out.as_bytes());
@@ -106,11 +137,18 @@ fn help() {
 #[test]
 fn the_form_in_help_is_the_spring_call() {
     let out = String::from_utf8(run(&["--help"]).1).unwrap();
-    let lines = out.lines().skip_while(|line| !line.starts_with("    book version"));
-    let lines = lines.take_while(|line| !line.is_empty()).map(|line| line[4..].split("  ").next().unwrap());
+    let lines = out
+        .lines()
+        .skip_while(|line| !line.starts_with("    book version"));
+    let lines = lines
+        .take_while(|line| !line.is_empty())
+        .map(|line| line[4..].split("  ").next().unwrap());
     let text = lines.collect::<Vec<_>>().join("\n");
     let call = fs::read(root().join("calls/spring.call")).unwrap();
-    assert_eq!(run_with_input(&["assemble", "-"], text.as_bytes()), (0, call, String::new()));
+    assert_eq!(
+        run_with_input(&["assemble", "-"], text.as_bytes()),
+        (0, call, String::new())
+    );
 }
 
 #[test]
@@ -118,12 +156,26 @@ fn output_that_cannot_be_written() {
     if !Path::new("/dev/full").exists() {
         return;
     }
-    for words in [&["show", "calls/A.call"][..], &["explain", "calls/A.call"], &["assemble", "examples/spring.txt"], &["--help"]] {
+    for words in [
+        &["show", "calls/A.call"][..],
+        &["explain", "calls/A.call"],
+        &["assemble", "examples/spring.txt"],
+        &["--help"],
+    ] {
         let full = File::options().write(true).open("/dev/full").unwrap();
-        let output = command(words).stdout(full).stderr(Stdio::piped()).spawn().unwrap().wait_with_output().unwrap();
+        let output = command(words)
+            .stdout(full)
+            .stderr(Stdio::piped())
+            .spawn()
+            .unwrap()
+            .wait_with_output()
+            .unwrap();
         let (status, _, errors) = told(output);
         assert_eq!(status, 3, "{words:?}");
-        assert!(errors.starts_with("call: standard output cannot be written"), "{errors}");
+        assert!(
+            errors.starts_with("call: standard output cannot be written"),
+            "{errors}"
+        );
     }
 }
 
@@ -133,7 +185,11 @@ fn readers_gone_and_descriptors_closed() {
     let program = env!("CARGO_BIN_EXE_call");
     let script = |line: &str| {
         let line = line.replace("CALL", program);
-        let output = Command::new("bash").args(["-c", &line]).current_dir(root()).output().unwrap();
+        let output = Command::new("bash")
+            .args(["-c", &line])
+            .current_dir(root())
+            .output()
+            .unwrap();
         told(output)
     };
     for line in [
@@ -152,9 +208,41 @@ fn readers_gone_and_descriptors_closed() {
 
 #[test]
 fn input_without_end() {
-    for (words, status) in [(["assemble", "/dev/zero"], 2), (["show", "/dev/zero"], 1), (["explain", "/dev/zero"], 1)] {
+    for (words, status) in [
+        (["assemble", "/dev/zero"], 2),
+        (["show", "/dev/zero"], 1),
+        (["explain", "/dev/zero"], 1),
+    ] {
         let (given, _, errors) = run(&words);
         assert_eq!(given, status, "{errors}");
         assert!(errors.contains("is longer than"), "{errors}");
     }
+}
+
+/// What docs/CALLS.md shows of the spring calls is what the command prints.
+#[test]
+fn the_page_shows_what_is_printed() {
+    let page = fs::read_to_string(root().join("docs/CALLS.md")).unwrap();
+    let indented = |text: &str| {
+        let lines = text.lines().map(|line| {
+            if line.is_empty() {
+                String::new()
+            } else {
+                format!("    {line}")
+            }
+        });
+        lines.collect::<Vec<_>>().join("\n")
+    };
+    let shown = String::from_utf8(run(&["show", "calls/spring.call"]).1).unwrap();
+    let from_book = shown.split_once("\n\n").unwrap().1;
+    assert!(page.contains(&indented(from_book)), "{from_book}");
+    let explained = String::from_utf8(run(&["explain", "calls/spring-stale.call"]).1).unwrap();
+    assert!(page.contains(&indented(&explained)), "{explained}");
+    let text = fs::read_to_string(root().join("examples/spring.txt")).unwrap();
+    let without_comments = text
+        .lines()
+        .filter(|line| !line.starts_with('#'))
+        .collect::<Vec<_>>()
+        .join("\n");
+    assert!(page.contains(&indented(&without_comments)));
 }

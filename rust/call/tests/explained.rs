@@ -25,7 +25,8 @@ fn names_a_place(number: u32, place: &str) -> bool {
         13 => &["q (sum of Y σ + sum of Z ρ) = "],
         _ => &["set ", "winner "],
     };
-    starts.iter().any(|start| place.starts_with(start)) && place.contains(|c: char| c.is_ascii_digit())
+    starts.iter().any(|start| place.starts_with(start))
+        && place.contains(|c: char| c.is_ascii_digit())
 }
 
 #[test]
@@ -42,7 +43,11 @@ fn every_number_has_places() {
             assert!(!explained.text.contains("ATTENTION"), "{}", explained.text);
             let found = places(number, &input.bytes);
             if number > 0 {
-                assert!(names_a_place(number, found.first().map_or("", String::as_str)), "{}", explained.text);
+                assert!(
+                    names_a_place(number, found.first().map_or("", String::as_str)),
+                    "{}",
+                    explained.text
+                );
             }
         }
     }
@@ -56,7 +61,11 @@ fn no_place_is_found_where_the_answer_is_yes() {
     for _ in 0..100 {
         let input = Example::small(&mut rng).bytes();
         for number in 0..=17 {
-            assert_eq!(places(number, &input), Vec::<String>::new(), "question {number}");
+            assert_eq!(
+                places(number, &input),
+                Vec::<String>::new(),
+                "question {number}"
+            );
         }
     }
 }
@@ -70,7 +79,11 @@ fn no_place_is_found_before_the_refusal() {
         for input in example.some_inputs(&mut rng, 300) {
             let refused = library::ask(&input.bytes).number;
             for number in 1..refused {
-                assert_eq!(places(number, &input.bytes), Vec::<String>::new(), "{number} before {refused}");
+                assert_eq!(
+                    places(number, &input.bytes),
+                    Vec::<String>::new(),
+                    "{number} before {refused}"
+                );
             }
         }
     }
@@ -80,12 +93,19 @@ fn no_place_is_found_before_the_refusal() {
 fn worked_calls_are_explained() {
     for entry in fs::read_dir(root().join("calls")).unwrap() {
         let path = entry.unwrap().path();
-        if path.extension().is_some_and(|extension| extension == "call") {
+        if path
+            .extension()
+            .is_some_and(|extension| extension == "call")
+        {
             let expected = fs::read_to_string(path.with_extension("expected")).unwrap();
             let explained = explain(&fs::read(&path).unwrap());
             let list = expected.trim_end().replace('\n', "\n    ");
             let start = format!("The proved library's answer, which alone counts:\n    {list}\n");
-            assert!(explained.text.starts_with(&start), "{path:?}: {}", explained.text);
+            assert!(
+                explained.text.starts_with(&start),
+                "{path:?}: {}",
+                explained.text
+            );
             assert_eq!(explained.accepted, expected.starts_with("accepted"));
         }
     }
@@ -94,11 +114,17 @@ fn worked_calls_are_explained() {
 #[test]
 fn the_spring_calls() {
     let stale = explain(&fs::read(root().join("calls/spring-stale.call")).unwrap()).text;
-    assert!(stale.contains("q (sum of Y σ + sum of Z ρ) = 1 × (90 + 0) = 90\n"), "{stale}");
+    assert!(
+        stale.contains("q (sum of Y σ + sum of Z ρ) = 1 × (90 + 0) = 90\n"),
+        "{stale}"
+    );
     assert!(stale.contains("s (sum of X) = 1 × 20 = 20\n"), "{stale}");
     assert!(stale.contains("the first is 70 more"), "{stale}");
     let right = explain(&fs::read(root().join("calls/spring.call")).unwrap()).text;
-    assert!(right.contains("client 1 pays 20 for bid 1, which offered 90\n"), "{right}");
+    assert!(
+        right.contains("client 1 pays 20 for bid 1, which offered 90\n"),
+        "{right}"
+    );
 }
 
 #[test]
@@ -106,13 +132,23 @@ fn a_difference_is_told_loudly_and_the_library_leads() {
     let input = fs::read(root().join("calls/E.call")).unwrap();
     let word = library::ask(&input);
     let explained = explain_word(&input, &word, "accepted 2 1\n1 1 39\n2 2 30");
-    assert!(explained.text.contains("ATTENTION: the second implementation differs. It answers\n    accepted 2 1\n    1 1 39\n"));
+    assert!(explained.text.contains(
+        "ATTENTION: the second implementation differs. It answers\n    accepted 2 1\n    1 1 39\n"
+    ));
     assert!(explained.text.contains("The library's answer stands."));
     assert!(!explained.accepted && explained.text.contains("Question 11"));
-    let other = library::Word { number: 12, list: "refused 12".to_string(), ..word };
+    let other = library::Word {
+        number: 12,
+        list: "refused 12".to_string(),
+        ..word
+    };
     let explained = explain_word(&input, &other, "refused 11");
     assert!(explained.text.contains("ATTENTION") && explained.text.contains("Question 12"));
-    assert!(explained.text.contains("finds nothing wrong"), "{}", explained.text);
+    assert!(
+        explained.text.contains("finds nothing wrong"),
+        "{}",
+        explained.text
+    );
 }
 
 #[test]
@@ -121,7 +157,10 @@ fn the_questions_are_worded_as_on_their_page() {
     let page = page.split_whitespace().collect::<Vec<_>>().join(" ");
     for number in 1..=15 {
         let words = question(number).unwrap();
-        assert!(page.contains(&format!("{number}. {words}")), "question {number}");
+        assert!(
+            page.contains(&format!("{number}. {words}")),
+            "question {number}"
+        );
     }
     assert_eq!((question(0), question(16)), (None, None));
 }

@@ -41,8 +41,14 @@ fn fields_of_sheets() {
         assert_eq!((at(places.q(), 4), at(places.s(), 4)), (sheet.q, sheet.s));
         for (j, winner) in sheet.winners.iter().enumerate() {
             assert_eq!(at(places.bid(j), 1), winner.bid as i128);
-            assert_eq!((at(places.x(j), 8), at(places.z(j), 4)), (winner.x, winner.z));
-            assert_eq!((at(places.r(j), 8), at(places.t(j), 8)), (winner.r, winner.t));
+            assert_eq!(
+                (at(places.x(j), 8), at(places.z(j), 4)),
+                (winner.x, winner.z)
+            );
+            assert_eq!(
+                (at(places.r(j), 8), at(places.t(j), 8)),
+                (winner.r, winner.t)
+            );
         }
         assert_eq!(at(places.g(), 8) as u64 as i64, sheet.g as i64);
         for set in sheet.set_numbers() {

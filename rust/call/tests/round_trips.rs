@@ -18,15 +18,26 @@ fn round_trip(input: &[u8]) -> bool {
     let shown = show(input);
     if is_whole(input) {
         assert_eq!(shown.stopped, None, "{input:?}");
-        assert_eq!(assemble(shown.text.as_bytes()).as_deref(), Ok(input), "{}", shown.text);
+        assert_eq!(
+            assemble(shown.text.as_bytes()).as_deref(),
+            Ok(input),
+            "{}",
+            shown.text
+        );
         return true;
     }
     let stopped = shown.stopped.expect("a reason");
     let start = stopped.split(": byte ").next().unwrap_or("");
     let questions = [1, 2, 6].map(|number| format!("question {number} stops it"));
-    assert!(questions.iter().any(|question| question == start), "{stopped}");
+    assert!(
+        questions.iter().any(|question| question == start),
+        "{stopped}"
+    );
     let byte: usize = digits_after(&stopped, ": byte ");
-    assert!(byte <= input.len() || stopped.contains("is outside the book"), "{stopped}");
+    assert!(
+        byte <= input.len() || stopped.contains("is outside the book"),
+        "{stopped}"
+    );
     false
 }
 
@@ -68,7 +79,11 @@ fn any_number_in_any_field() {
 
 fn any_book(rng: &mut Rng) -> Book {
     let (k, n, m) = (rng.index(1, 4), rng.index(1, 6), rng.index(0, 48));
-    let mut numbers = |count: usize, bits: u32| (0..count).map(|_| any_number(rng, bits)).collect::<Vec<_>>();
+    let mut numbers = |count: usize, bits: u32| {
+        (0..count)
+            .map(|_| any_number(rng, bits))
+            .collect::<Vec<_>>()
+    };
     let (supply, reserve, status) = (numbers(k, 8), numbers(k, 16), numbers(n, 8));
     let bids = (0..m).map(|_| Bid {
         client: any_number(rng, 8) as usize,
@@ -99,7 +114,9 @@ fn any_sheet(rng: &mut Rng, n: usize) -> Sheet {
     });
     Sheet {
         winners,
-        sets: std::iter::once(Multipliers::default()).chain(sets).collect(),
+        sets: std::iter::once(Multipliers::default())
+            .chain(sets)
+            .collect(),
         q: any_number(rng, 32),
         s: any_number(rng, 32),
         g: any_number(rng, 64) - (1 << 63),
@@ -124,7 +141,12 @@ fn greatest_numbers_over_a_sound_book() {
         let sheet = &mut example.sheet;
         (sheet.q, sheet.s, sheet.g) = (0xffff_ffff, 0xffff_ffff, i64::MIN.into());
         for winner in &mut sheet.winners {
-            (winner.x, winner.z, winner.r, winner.t) = (u64::MAX.into(), u32::MAX.into(), u64::MAX.into(), u64::MAX.into());
+            (winner.x, winner.z, winner.r, winner.t) = (
+                u64::MAX.into(),
+                u32::MAX.into(),
+                u64::MAX.into(),
+                u64::MAX.into(),
+            );
         }
         for set in &mut sheet.sets[1..] {
             (set.y, set.u) = (u32::MAX.into(), u64::MAX.into());
@@ -148,5 +170,11 @@ fn a_book_alone() {
 fn every_input_of_one_example_is_met() {
     let mut rng = Rng::new(15);
     let example = Example::small(&mut rng);
-    assert!(inputs(&mut rng, &example).iter().filter(|input| round_trip(&input.bytes)).count() > 100);
+    assert!(
+        inputs(&mut rng, &example)
+            .iter()
+            .filter(|input| round_trip(&input.bytes))
+            .count()
+            > 100
+    );
 }
