@@ -36,11 +36,22 @@ fn put_book(bytes: &mut Vec<u8>, head: Head, book: &Book) {
         put(bytes, reserve, 2);
     }
     put_count(bytes, book.status.len());
-    book.status.iter().for_each(|&status| put(bytes, status, 1));
+    put_run(bytes, &book.status);
     put_count(bytes, book.bids.len());
+    put_bids(bytes, book);
+}
+
+/// Numbers of a byte each.
+fn put_run(bytes: &mut Vec<u8>, values: &[i128]) {
+    for &value in values {
+        put(bytes, value, 1);
+    }
+}
+
+fn put_bids(bytes: &mut Vec<u8>, book: &Book) {
     for bid in &book.bids {
         put_count(bytes, bid.client);
-        bid.hours.iter().for_each(|&hours| put(bytes, hours, 1));
+        put_run(bytes, &bid.hours);
         put(bytes, bid.amount, 4);
     }
 }
@@ -48,21 +59,27 @@ fn put_book(bytes: &mut Vec<u8>, head: Head, book: &Book) {
 fn put_sheet(bytes: &mut Vec<u8>, head: Head, sheet: &Sheet) {
     put_head(bytes, head, sheet_length(sheet.w()));
     put_count(bytes, sheet.w());
-    sheet
+    let bids: Vec<i128> = sheet
         .winners
         .iter()
-        .for_each(|winner| put_count(bytes, winner.bid));
+        .map(|winner| winner.bid as i128)
+        .collect();
+    put_run(bytes, &bids);
     put(bytes, sheet.q, 4);
     put(bytes, sheet.s, 4);
+    put_winners(bytes, sheet);
+    put(bytes, sheet.g, 8);
+    for set in sheet.sets.iter().skip(1) {
+        put(bytes, set.y, 4);
+        put(bytes, set.u, 8);
+    }
+}
+
+fn put_winners(bytes: &mut Vec<u8>, sheet: &Sheet) {
     for winner in &sheet.winners {
         put(bytes, winner.x, 8);
         put(bytes, winner.z, 4);
         put(bytes, winner.r, 8);
         put(bytes, winner.t, 8);
-    }
-    put(bytes, sheet.g, 8);
-    for set in sheet.sets.iter().skip(1) {
-        put(bytes, set.y, 4);
-        put(bytes, set.u, 8);
     }
 }

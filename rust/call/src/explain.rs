@@ -147,7 +147,7 @@ fn prices(input: &[u8], word: &Word) -> String {
 fn credits(price: u64, q: u32) -> String {
     let q = u64::from(q.max(1));
     match (price / q, price % q) {
-        (whole, 0) => format!("{whole}"),
-        (whole, rest) => format!("{price}/{q} (that is {whole} and {rest}/{q})"),
+        (whole, 0) => format!("{whole} credits"),
+        (whole, rest) => format!("{price}/{q} credits (that is {whole} and {rest}/{q})"),
     }
 }

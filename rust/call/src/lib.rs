@@ -2,7 +2,7 @@
 //! It never decides; the answers are the proved library's. Read the files in this order:
 //!
 //! - `words`, `number`, `line`: text as words with line and column, numbers, one line of the form
-//! - `draft`, `assemble`, `bytes`: what a text says, how it is read, and its bytes
+//! - `draft`, `assemble`, `sets`, `bytes`: what a text says, how it is read, and its bytes
 //! - `library`: the proved library's answer, v and σ
 //! - `layout`, `parts`, `sums`: where fields stand, a call taken apart, both sides of each question
 //! - `show`, `show_book`, `show_sheet`, `rows`: a call as text, figures beside it
@@ -31,6 +31,7 @@ pub mod places_head;
 pub mod places_sheet;
 pub mod range;
 pub mod rows;
+pub mod sets;
 pub mod show;
 pub mod show_book;
 pub mod show_sheet;

@@ -7,34 +7,35 @@ use reference::{Book, Sheet};
 use std::fmt::Write;
 
 pub fn sheet_lines(book: &Book, sheet: &Sheet, sums: Option<&Sums>, word: &Word) -> String {
-    let mut winners = Rows::default();
+    let (q, s, g) = (sheet.q, sheet.s, sheet.g);
+    let winners = winner_rows(book, sheet, word).text();
+    let sets = set_rows(sheet, sums).text();
+    format!("\nsheet q {q} s {s} G {g}\n\n{winners}\n{sets}")
+}
+
+fn winner_rows(book: &Book, sheet: &Sheet, word: &Word) -> Rows {
+    let mut rows = Rows::default();
     for (j, winner) in sheet.winners.iter().enumerate() {
         let line = format!(
             "winner {j} bid {} X {} Z {} R {} T {}",
             winner.bid, winner.x, winner.z, winner.r, winner.t
         );
-        winners.add(line, winner_comment(book, sheet, j, word));
+        rows.add(line, winner_comment(book, sheet, j, word));
     }
-    let mut sets = Rows::default();
+    rows
+}
+
+fn set_rows(sheet: &Sheet, sums: Option<&Sums>) -> Rows {
+    let mut rows = Rows::default();
     for set in sheet.set_numbers() {
-        let of = &sheet.sets[set];
-        let line = format!(
-            "set {set} winners {} Y {} U {}",
-            members(set, sheet.w()),
-            of.y,
-            of.u
-        );
-        sets.add(
+        let (of, who) = (&sheet.sets[set], members(set, sheet.w()));
+        let line = format!("set {set} winners {who} Y {} U {}", of.y, of.u);
+        rows.add(
             line,
             sums.map_or(String::new(), |sums| set_comment(sums, set)),
         );
     }
-    let (q, s, g) = (sheet.q, sheet.s, sheet.g);
-    format!(
-        "\nsheet q {q} s {s} G {g}\n\n{}\n{}",
-        winners.text(),
-        sets.text()
-    )
+    rows
 }
 
 /// The winner's client and amount, and its price where the library has accepted the call.

@@ -135,6 +135,10 @@ fn fields() {
     );
     at("client 1 withdrawn standing", 1, 1, "more than one status");
     at("client 1 withdrawn status 1", 1, 1, "more than one status");
+}
+
+#[test]
+fn hours() {
     let book = "kind supply 1 reserve 0\nkind supply 1 reserve 0\nclient\n";
     at(
         &format!("{book}bid client 1 hours 1 amount 1"),
@@ -168,6 +172,10 @@ fn sizes_of_numbers() {
     );
     at("kind 1 supply +1 reserve 0", 1, 15, "no whole number");
     at("kind 1 supply - reserve 0", 1, 15, "no whole number");
+}
+
+#[test]
+fn long_numbers() {
     let long = "9".repeat(200);
     at(
         &format!("kind 1 supply {long} reserve 0"),

@@ -122,7 +122,7 @@ fn the_spring_calls() {
     assert!(stale.contains("the first is 70 more"), "{stale}");
     let right = explain(&fs::read(root().join("calls/spring.call")).unwrap()).text;
     assert!(
-        right.contains("client 1 pays 20 for bid 1, which offered 90\n"),
+        right.contains("client 1 pays 20 credits for bid 1, which offered 90\n"),
         "{right}"
     );
 }
