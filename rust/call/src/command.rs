@@ -5,6 +5,7 @@ use crate::explain::explain;
 use crate::files::{self, complain, told, Contents};
 use crate::help::HELP;
 use crate::show::show;
+use std::ffi::{OsStr, OsString};
 
 /// Exit statuses, as `--help` has them.
 pub const DONE: u8 = 0;
@@ -13,18 +14,21 @@ pub const WRONG: u8 = 2;
 pub const UNREADABLE: u8 = 3;
 
 /// Runs the command with the words after its name.
-pub fn run(words: &[String]) -> u8 {
-    let words: Vec<&str> = words.iter().map(String::as_str).collect();
-    if words.iter().any(|&word| word == "--help" || word == "-h") {
+pub fn run(words: &[OsString]) -> u8 {
+    // A word that is no text is the name of a file; which one, `words` says.
+    let said: Vec<&str> = words
+        .iter()
+        .map(|word| word.to_str().unwrap_or(""))
+        .collect();
+    if said.iter().any(|&word| word == "--help" || word == "-h") {
         return put(None, HELP.as_bytes(), DONE);
     }
-    match words[..] {
-        ["assemble", file] if is_file(file) => assemble_file(file, None),
-        ["assemble", file, "-o", out] | ["assemble", "-o", out, file] if is_file(file) => {
-            assemble_file(file, Some(out))
-        }
-        ["show", file] if is_file(file) => show_file(file),
-        ["explain", file] if is_file(file) => explain_file(file),
+    match said[..] {
+        ["assemble", file] if is_file(file) => assemble_file(&words[1], None),
+        ["assemble", file, "-o", _] if is_file(file) => assemble_file(&words[1], Some(&words[3])),
+        ["assemble", "-o", _, file] if is_file(file) => assemble_file(&words[3], Some(&words[2])),
+        ["show", file] if is_file(file) => show_file(&words[1]),
+        ["explain", file] if is_file(file) => explain_file(&words[1]),
         _ => {
             complain("assemble FILE [-o OUT], show FILE or explain FILE; call --help says more");
             WRONG
@@ -37,7 +41,7 @@ fn is_file(name: &str) -> bool {
     name == "-" || !name.starts_with('-')
 }
 
-fn put(out: Option<&str>, bytes: &[u8], status: u8) -> u8 {
+fn put(out: Option<&OsStr>, bytes: &[u8], status: u8) -> u8 {
     match files::write(out, bytes) {
         Ok(()) => status,
         Err(error) => {
@@ -48,7 +52,7 @@ fn put(out: Option<&str>, bytes: &[u8], status: u8) -> u8 {
 }
 
 /// Reads a file and does something with what is in it.
-fn with_file(file: &str, then: impl Fn(Contents) -> u8) -> u8 {
+fn with_file(file: &OsStr, then: impl Fn(Contents) -> u8) -> u8 {
     match files::read(file) {
         Ok(contents) => then(contents),
         Err(error) => {
@@ -58,7 +62,7 @@ fn with_file(file: &str, then: impl Fn(Contents) -> u8) -> u8 {
     }
 }
 
-fn assemble_file(file: &str, out: Option<&str>) -> u8 {
+fn assemble_file(file: &OsStr, out: Option<&OsStr>) -> u8 {
     with_file(file, |contents| {
         if contents.cut {
             complain(&format!(
@@ -69,7 +73,7 @@ fn assemble_file(file: &str, out: Option<&str>) -> u8 {
             return WRONG;
         }
         match assemble(&contents.bytes) {
-            Ok(bytes) => put(out, &bytes, DONE),
+            Ok(bytes) => put(out.filter(|&name| name != "-"), &bytes, DONE),
             Err(fault) => {
                 complain(&format!("{}, {fault}", told(file)));
                 WRONG
@@ -78,7 +82,7 @@ fn assemble_file(file: &str, out: Option<&str>) -> u8 {
     })
 }
 
-fn show_file(file: &str) -> u8 {
+fn show_file(file: &OsStr) -> u8 {
     with_file(file, |contents| {
         tell_cut(file, &contents);
         let shown = show(&contents.bytes);
@@ -95,7 +99,7 @@ fn show_file(file: &str) -> u8 {
     })
 }
 
-fn explain_file(file: &str) -> u8 {
+fn explain_file(file: &OsStr) -> u8 {
     with_file(file, |contents| {
         tell_cut(file, &contents);
         let explained = explain(&contents.bytes);
@@ -105,7 +109,7 @@ fn explain_file(file: &str) -> u8 {
 }
 
 /// The longest call has 1,406 bytes, so what is cut off changes no answer.
-fn tell_cut(file: &str, contents: &Contents) {
+fn tell_cut(file: &OsStr, contents: &Contents) {
     if contents.cut {
         complain(&format!(
             "{} is longer than any call; only its first {} bytes are read, and counted",

@@ -1,5 +1,6 @@
 //! Reading and writing files, where `-` is standard input, with a limit on what is read.
 
+use std::ffi::OsStr;
 use std::fs::{self, File};
 use std::io::{self, Read, Write};
 
@@ -13,10 +14,10 @@ pub struct Contents {
 }
 
 /// Reads a file or standard input. An error is told in words.
-pub fn read(name: &str) -> Result<Contents, String> {
-    let read = match name {
-        "-" => read_from(io::stdin().lock()),
-        _ => File::open(name).and_then(read_from),
+pub fn read(name: &OsStr) -> Result<Contents, String> {
+    let read = match name == "-" {
+        true => read_from(io::stdin().lock()),
+        false => File::open(name).and_then(read_from),
     };
     read.map_err(|error| format!("{} cannot be read: {error}", told(name)))
 }
@@ -30,7 +31,7 @@ fn read_from(source: impl Read) -> io::Result<Contents> {
 }
 
 /// Writes a file, or standard output where there is no name.
-pub fn write(name: Option<&str>, bytes: &[u8]) -> Result<(), String> {
+pub fn write(name: Option<&OsStr>, bytes: &[u8]) -> Result<(), String> {
     match name {
         Some(name) => fs::write(name, bytes)
             .map_err(|error| format!("{} cannot be written: {error}", told(name))),
@@ -52,9 +53,9 @@ pub fn complain(line: &str) {
 }
 
 /// A file's name as messages have it, on one line.
-pub fn told(name: &str) -> String {
-    match name {
-        "-" => "standard input".to_string(),
-        _ => name.escape_debug().to_string(),
+pub fn told(name: &OsStr) -> String {
+    match name == "-" {
+        true => "standard input".to_string(),
+        false => name.to_string_lossy().escape_debug().to_string(),
     }
 }

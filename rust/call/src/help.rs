@@ -8,7 +8,7 @@ call: writes, shows and explains calls for package-auction prices
     call explain FILE             says in words which question a refused call fails, where and by how much
     call --help                   prints this
 
-FILE - is standard input. No more than 1,048,576 bytes of a file are read.
+FILE - is standard input, and OUT - standard output. No more than 1,048,576 bytes of a file are read.
 
 The command never decides. The number and the prices that it prints are the proved library's answer, and
 v and σ are made of the library's greatest values; all other words and figures are worked out beside it.

@@ -5,8 +5,6 @@
 use std::process::ExitCode;
 
 fn main() -> ExitCode {
-    let words = std::env::args_os()
-        .skip(1)
-        .map(|word| word.to_string_lossy().into_owned());
-    ExitCode::from(call::command::run(&words.collect::<Vec<_>>()))
+    let words: Vec<_> = std::env::args_os().skip(1).collect();
+    ExitCode::from(call::command::run(&words))
 }

@@ -1,5 +1,6 @@
 //! Where a call fails questions 1, 2 and 6, which ask for versions, lengths and counts.
 
+use crate::assemble::assemble;
 use crate::parts::BookPart;
 use crate::range::{bytes, outside};
 use reference::bytes::number;
@@ -21,6 +22,9 @@ pub fn first_bytes(input: &[u8]) -> Vec<String> {
         Some(version) => places.push(format!(
             "byte 0, the book's version, is {version} and must be 1"
         )),
+    }
+    if assemble(input).is_ok() {
+        places.push("it reads as the text of a call: 'call assemble' makes the call".to_string());
     }
     places
 }

@@ -70,7 +70,7 @@ fn winner_place(book: &Book, part: &SheetPart, j: usize) -> Option<String> {
     let before = part.sheet.winners[..j].last()?;
     let earlier = book.bid(before.bid)?.client;
     (client <= earlier).then(|| {
-        format!("{start} is {number}, a bid of client {client}, {} less than it must be after client {earlier}", earlier + 1 - client)
+        format!("{start} is {number}, a bid of client {client}, where a client above {earlier} must come")
     })
 }
 

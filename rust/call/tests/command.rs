@@ -68,6 +68,7 @@ fn from_standard_input_and_to_a_file() {
     );
     assert_ne!(fs::read(&out).unwrap(), call);
     fs::remove_file(&out).unwrap();
+    assert_eq!(run(&["assemble", "examples/spring.txt", "-o", "-"]).1, call);
     let (status, shown, _) = run_with_input(&["show", "-"], &call);
     assert_eq!(status, 0);
     assert_eq!(run_with_input(&["assemble", "-"], &shown).1, call);
@@ -96,6 +97,26 @@ fn statuses() {
         assert_eq!((status, out), (3, vec![]), "{errors}");
         assert_eq!(errors.lines().count(), 1, "{errors}");
     }
+}
+
+/// Showing or explaining a text says that it is one; a name that is no text is opened as it stands.
+#[test]
+fn texts_and_names() {
+    let (status, _, errors) = run(&["show", "examples/spring.txt"]);
+    assert!(
+        status == 1 && errors.contains("byte 0, the book's version, is 35 and must be 1"),
+        "{errors}"
+    );
+    assert!(
+        errors.contains("it reads as the text of a call"),
+        "{errors}"
+    );
+    use std::os::unix::ffi::OsStrExt;
+    let path = std::env::temp_dir().join(std::ffi::OsStr::from_bytes(b"spring-\xff.call"));
+    fs::copy(root().join("calls/spring.call"), &path).unwrap();
+    let (status, _, errors) = told(command(&["explain"]).arg(&path).output().unwrap());
+    fs::remove_file(&path).unwrap();
+    assert_eq!((status, errors.as_str()), (0, ""));
 }
 
 #[test]
