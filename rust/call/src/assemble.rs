@@ -105,18 +105,10 @@ impl Reader {
     fn client(&mut self, line: &Line) -> Result<(), Fault> {
         line.follows(self.draft.book.status.len() + 1)?;
         line.allow(&["standing", "withdrawn", "status"])?;
-        let standing = line.flag("standing")?;
-        let withdrawn = line.flag("withdrawn")?;
-        let status = line.one("status", 0, BYTE)?;
-        let said = usize::from(standing.is_some())
-            + usize::from(withdrawn.is_some())
-            + usize::from(status.is_some());
-        if said > 1 {
-            return Err(line
-                .keyword
-                .fault("the client line names more than one status"));
-        }
-        let status = status.unwrap_or(i128::from(withdrawn.is_some()));
+        line.one_field_at_most("a client has one status")?;
+        line.flag("standing")?;
+        let withdrawn = i128::from(line.flag("withdrawn")?);
+        let status = line.one("status", 0, BYTE)?.unwrap_or(withdrawn);
         self.draft.book.status.push(status);
         self.book_fits(line, self.draft.book.status.len())
     }

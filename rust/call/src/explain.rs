@@ -2,7 +2,7 @@
 //! picks the question whose places are looked for, and the second implementation's is set beside it.
 
 use crate::asked::question;
-use crate::library::{self, Word};
+use crate::library::{self, Reply};
 use crate::parts::{book_of, sheet_of, weights_of};
 use crate::sums::Sums;
 use crate::{places_balance, places_book, places_head, places_sheet};
@@ -15,22 +15,22 @@ pub struct Explained {
 }
 
 pub fn explain(input: &[u8]) -> Explained {
-    let word = library::ask(input);
+    let reply = library::ask(input);
     let second = reference::price_list(input);
-    explain_word(input, &word, second.trim_end())
+    explain_reply(input, &reply, second.trim_end())
 }
 
 /// The same, given the library's answer and the second implementation's.
-pub fn explain_word(input: &[u8], word: &Word, second: &str) -> Explained {
-    let accepted = word.number == 0;
-    let answer = word.list.replace('\n', "\n    ");
+pub fn explain_reply(input: &[u8], reply: &Reply, second: &str) -> Explained {
+    let accepted = reply.number == 0;
+    let answer = reply.list.replace('\n', "\n    ");
     let mut text = format!("The proved library's answer, which alone counts:\n    {answer}\n");
-    if word.list != second {
+    if reply.list != second {
         text += &difference(second);
     }
     text += &match accepted {
-        true => prices(input, word),
-        false => refusal(input, word.number),
+        true => prices(input, reply),
+        false => refusal(input, reply.number),
     };
     Explained { text, accepted }
 }
@@ -116,17 +116,17 @@ fn weighed(number: u32, input: &[u8], book: &Book, sheet: &reference::Sheet) -> 
 }
 
 /// Each price of an accepted call: the library's numerators, over its q.
-fn prices(input: &[u8], word: &Word) -> String {
+fn prices(input: &[u8], reply: &Reply) -> String {
     let Some(part) = book_of(input) else {
         return String::new();
     };
     let Some(sheet) = sheet_of(&part) else {
         return String::new();
     };
-    let winners = sheet.sheet.winners.iter().zip(word.prices);
+    let winners = sheet.sheet.winners.iter().zip(reply.prices);
     let mut text = format!(
         "Accepted: all fifteen questions are answered yes. Prices are over {}.\n",
-        word.q
+        reply.q
     );
     for (winner, price) in winners {
         let Some(bid) = part.book.bid(winner.bid) else {
@@ -135,7 +135,7 @@ fn prices(input: &[u8], word: &Word) -> String {
         text += &format!(
             "    client {} pays {} for bid {}, which offered {}\n",
             bid.client,
-            credits(price, word.q),
+            credits(price, reply.q),
             winner.bid,
             bid.amount
         );

@@ -1,11 +1,11 @@
-//! The proved library's word: its answer to a call, and the greatest values that v and σ are made of.
+//! The proved library: its answer to a call, and the greatest values that v and σ are made of.
 
 use reference::combinations::clients_of;
 use reference::sheet::holds;
 use reference::{Book, Weights};
 
 /// What the library answers to a call.
-pub struct Word {
+pub struct Reply {
     /// 0 for acceptance, or the number of the refusal.
     pub number: u32,
     pub q: u32,
@@ -15,11 +15,11 @@ pub struct Word {
 }
 
 /// Asks the library. Any bytes will do.
-pub fn ask(input: &[u8]) -> Word {
+pub fn ask(input: &[u8]) -> Reply {
     let answer = certifier::judge_sheet(input);
     let text = certifier::price_list(input);
     let list = text.bytes.get(..text.len).unwrap_or(&text.bytes);
-    Word {
+    Reply {
         number: answer.number,
         q: answer.q,
         prices: answer.prices,

@@ -73,6 +73,14 @@ impl Line {
         Ok(())
     }
 
+    /// That no second field stands in the line, for this reason.
+    pub fn one_field_at_most(&self, reason: &str) -> Result<(), Fault> {
+        match self.fields.get(1) {
+            None => Ok(()),
+            Some(second) => Err(second.name.fault(reason)),
+        }
+    }
+
     fn field(&self, name: &str) -> Option<&Field> {
         self.fields.iter().find(|field| field.name.text == name)
     }
@@ -84,12 +92,12 @@ impl Line {
     }
 
     /// Whether a word without numbers stands in the line.
-    pub fn flag(&self, name: &str) -> Result<Option<&Word>, Fault> {
+    pub fn flag(&self, name: &str) -> Result<bool, Fault> {
         let Some(field) = self.field(name) else {
-            return Ok(None);
+            return Ok(false);
         };
         match field.values.first() {
-            None => Ok(Some(&field.name)),
+            None => Ok(true),
             Some(value) => Err(value.fault(format!("no number stands after '{name}'"))),
         }
     }

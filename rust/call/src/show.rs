@@ -1,7 +1,7 @@
 //! A call as text: the lines that `assemble` reads, with the figures beside them as comments.
 
 use crate::explain;
-use crate::library::{self, Word};
+use crate::library::{self, Reply};
 use crate::parts::{book_of, sheet_of, weights_of, BookPart};
 use crate::show_book::book_lines;
 use crate::show_sheet::{balance_lines, sheet_lines};
@@ -15,12 +15,12 @@ pub struct Shown {
 }
 
 pub fn show(input: &[u8]) -> Shown {
-    let word = library::ask(input);
+    let reply = library::ask(input);
     let Some(part) = book_of(input) else {
         let number = if question_1(input) { 2 } else { 1 };
-        return stopped(opening(&word), number, input);
+        return stopped(opening(&reply), number, input);
     };
-    let start = opening(&word) + &book_lines(&part);
+    let start = opening(&reply) + &book_lines(&part);
     let Some(sheet_part) = sheet_of(&part) else {
         return stopped(start, 6, input);
     };
@@ -29,7 +29,7 @@ pub fn show(input: &[u8]) -> Shown {
     let sums = weights.as_ref().map(|weights| Sums { sheet, weights });
     let text = start
         + &value_line(input, &part, sums.as_ref())
-        + &sheet_lines(&part.book, sheet, sums.as_ref(), &word)
+        + &sheet_lines(&part.book, sheet, sums.as_ref(), &reply)
         + &sums.map_or(String::new(), |sums| balance_lines(&sums));
     Shown {
         text,
@@ -46,8 +46,8 @@ fn stopped(text: String, number: u32, input: &[u8]) -> Shown {
     }
 }
 
-fn opening(word: &Word) -> String {
-    let answer = word.list.replace('\n', "\n#     ");
+fn opening(reply: &Reply) -> String {
+    let answer = reply.list.replace('\n', "\n#     ");
     format!(
         "# The proved library's answer, which alone counts:\n#     {answer}\n\
          # All else after a # is for redoing the sum; '!' marks a figure that breaks its bound.\n\n"

@@ -1,26 +1,26 @@
 //! The lines of a sheet, and its balances.
 
-use crate::library::Word;
+use crate::library::Reply;
 use crate::rows::{mark, Rows};
 use crate::sums::{members, Sums};
 use reference::{Book, Sheet};
 use std::fmt::Write;
 
-pub fn sheet_lines(book: &Book, sheet: &Sheet, sums: Option<&Sums>, word: &Word) -> String {
+pub fn sheet_lines(book: &Book, sheet: &Sheet, sums: Option<&Sums>, reply: &Reply) -> String {
     let (q, s, g) = (sheet.q, sheet.s, sheet.g);
-    let winners = winner_rows(book, sheet, word).text();
+    let winners = winner_rows(book, sheet, reply).text();
     let sets = set_rows(sheet, sums).text();
     format!("\nsheet q {q} s {s} G {g}\n\n{winners}\n{sets}")
 }
 
-fn winner_rows(book: &Book, sheet: &Sheet, word: &Word) -> Rows {
+fn winner_rows(book: &Book, sheet: &Sheet, reply: &Reply) -> Rows {
     let mut rows = Rows::default();
     for (j, winner) in sheet.winners.iter().enumerate() {
         let line = format!(
             "winner {j} bid {} X {} Z {} R {} T {}",
             winner.bid, winner.x, winner.z, winner.r, winner.t
         );
-        rows.add(line, winner_comment(book, sheet, j, word));
+        rows.add(line, winner_comment(book, sheet, j, reply));
     }
     rows
 }
@@ -39,13 +39,13 @@ fn set_rows(sheet: &Sheet, sums: Option<&Sums>) -> Rows {
 }
 
 /// The winner's client and amount, and its price where the library has accepted the call.
-fn winner_comment(book: &Book, sheet: &Sheet, j: usize, word: &Word) -> String {
+fn winner_comment(book: &Book, sheet: &Sheet, j: usize, reply: &Reply) -> String {
     let Some(bid) = book.bid(sheet.winners[j].bid) else {
         return "there is no such bid !".to_string();
     };
     let bought = format!("client {}, amount {}", bid.client, bid.amount);
-    match (word.number, word.prices.get(j)) {
-        (0, Some(price)) => format!("{bought}; pays {price} / {}", word.q),
+    match (reply.number, reply.prices.get(j)) {
+        (0, Some(price)) => format!("{bought}; pays {price} / {}", reply.q),
         _ => bought,
     }
 }

@@ -133,8 +133,8 @@ fn fields() {
         20,
         "no number stands after 'withdrawn'",
     );
-    at("client 1 withdrawn standing", 1, 1, "more than one status");
-    at("client 1 withdrawn status 1", 1, 1, "more than one status");
+    at("client 1 withdrawn standing", 1, 20, "one status");
+    at("client 1 withdrawn status 1", 1, 20, "one status");
 }
 
 #[test]

@@ -1,7 +1,7 @@
 //! Each refusal is explained with a place, in the question's own words, and the library leads.
 
 use call::asked::question;
-use call::explain::{explain, explain_word, places};
+use call::explain::{explain, explain_reply, places};
 use call::library;
 use compare::Example;
 use generate::Rng;
@@ -130,19 +130,19 @@ fn the_spring_calls() {
 #[test]
 fn a_difference_is_told_loudly_and_the_library_leads() {
     let input = fs::read(root().join("calls/E.call")).unwrap();
-    let word = library::ask(&input);
-    let explained = explain_word(&input, &word, "accepted 2 1\n1 1 39\n2 2 30");
+    let reply = library::ask(&input);
+    let explained = explain_reply(&input, &reply, "accepted 2 1\n1 1 39\n2 2 30");
     assert!(explained.text.contains(
         "ATTENTION: the second implementation differs. It answers\n    accepted 2 1\n    1 1 39\n"
     ));
     assert!(explained.text.contains("The library's answer stands."));
     assert!(!explained.accepted && explained.text.contains("Question 11"));
-    let other = library::Word {
+    let other = library::Reply {
         number: 12,
         list: "refused 12".to_string(),
-        ..word
+        ..reply
     };
-    let explained = explain_word(&input, &other, "refused 11");
+    let explained = explain_reply(&input, &other, "refused 11");
     assert!(explained.text.contains("ATTENTION") && explained.text.contains("Question 12"));
     assert!(
         explained.text.contains("finds nothing wrong"),
