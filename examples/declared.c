@@ -8,18 +8,20 @@
 
 /* An array of a negative size stops the compiler. */
 #define HOLDS(name, fact) typedef char name[(fact) ? 1 : -1]
+#define FIELD(of, name, place, size)                                                                                                           \
+    HOLDS(of##_##name, offsetof(struct gimletsorrel_##of, name) == (place) && sizeof((struct gimletsorrel_##of *)0)->name == (size))
 
 HOLDS(worth_size, sizeof(struct gimletsorrel_worth) == 8);
-HOLDS(worth_number, offsetof(struct gimletsorrel_worth, number) == 0);
-HOLDS(worth_value, offsetof(struct gimletsorrel_worth, value) == 4);
+FIELD(worth, number, 0, 4);
+FIELD(worth, value, 4, 4);
 HOLDS(prices_size, sizeof(struct gimletsorrel_prices) == 64);
-HOLDS(prices_number, offsetof(struct gimletsorrel_prices, number) == 0);
-HOLDS(prices_w, offsetof(struct gimletsorrel_prices, w) == 4);
-HOLDS(prices_q, offsetof(struct gimletsorrel_prices, q) == 8);
-HOLDS(prices_prices, offsetof(struct gimletsorrel_prices, prices) == 16);
+FIELD(prices, number, 0, 4);
+FIELD(prices, w, 4, 4);
+FIELD(prices, q, 8, 4);
+FIELD(prices, prices, 16, 48);
 HOLDS(text_size, sizeof(struct gimletsorrel_text) == 136);
-HOLDS(text_bytes, offsetof(struct gimletsorrel_text, bytes) == 0);
-HOLDS(text_len, offsetof(struct gimletsorrel_text, len) == 128);
+FIELD(text, bytes, 0, 128);
+FIELD(text, len, 128, 8);
 
 /* Two hours at a reserve of 10; clients 1 and 2 want one each for 60 and 50, client 3 both for 70. */
 static const uint8_t book[] = {1, 0, 30, 1, 2, 0, 10, 3, 0, 0, 0, 3, 1, 1, 0, 0, 0, 60, 2, 1, 0, 0, 0, 50, 3, 2, 0, 0, 0, 70};
