@@ -1,6 +1,7 @@
 //! Assemble after show gives the same bytes, wherever questions 1, 2 and 6 are answered yes.
 
 use call::assemble::assemble;
+use call::explain::{explain, places};
 use call::parts::{book_of, sheet_of};
 use call::show::show;
 use compare::{inputs, Example};
@@ -49,22 +50,36 @@ fn digits_after(text: &str, start: &str) -> usize {
 
 #[test]
 fn generated_calls() {
-    let mut rng = Rng::new(11);
+    let (whole, stopped) = of_examples(11, 30);
+    assert!(whole > 5_000 && stopped > 2_000);
+}
+
+/// Run by hand: `cargo test --release -p call --test round_trips -- --ignored --nocapture`.
+#[test]
+#[ignore]
+fn many_more_generated_calls() {
+    let (whole, stopped) = of_examples(16, 600);
+    println!("{whole} the same, {stopped} stopped");
+}
+
+/// Round trips of the inputs from so many examples: how many came back the same, and how many were stopped.
+fn of_examples(seed: u64, rounds: usize) -> (usize, usize) {
+    let mut rng = Rng::new(seed);
     let (mut whole, mut stopped) = (0, 0);
-    for round in 0..30 {
+    for round in 0..rounds {
         let (example, count) = match round % 3 {
             2 => (Example::any(&mut rng), 400),
             _ => (Example::small(&mut rng), usize::MAX),
         };
-        for input in example.some_inputs(&mut rng, count) {
-            match round_trip(&input.bytes) {
-                true => whole += 1,
-                false => stopped += 1,
-            }
-        }
+        let inputs = example.some_inputs(&mut rng, count);
+        let same = inputs
+            .iter()
+            .filter(|input| round_trip(&input.bytes))
+            .count();
+        whole += same;
+        stopped += inputs.len() - same;
     }
-    println!("{whole} the same, {stopped} stopped");
-    assert!(whole > 5_000 && stopped > 2_000);
+    (whole, stopped)
 }
 
 #[test]
@@ -73,8 +88,18 @@ fn any_number_in_any_field() {
     for _ in 0..2_000 {
         let book = any_book(&mut rng);
         let sheet = any_sheet(&mut rng, book.status.len());
-        assert!(round_trip(&write::input(&book, &sheet)));
+        let input = write::input(&book, &sheet);
+        assert!(round_trip(&input));
+        look_everywhere(&input);
     }
+}
+
+/// Looks for places of every question, whichever the library refuses with.
+fn look_everywhere(input: &[u8]) {
+    for number in 0..=17 {
+        let _ = places(number, input);
+    }
+    assert!(!explain(input).text.contains("ATTENTION"));
 }
 
 fn any_book(rng: &mut Rng) -> Book {
@@ -152,6 +177,7 @@ fn greatest_numbers_over_a_sound_book() {
             (set.y, set.u) = (u32::MAX.into(), u64::MAX.into());
         }
         assert!(round_trip(&example.bytes()));
+        look_everywhere(&example.bytes());
     }
 }
 
