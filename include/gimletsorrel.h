@@ -1,0 +1,60 @@
+/* The certifier for package-auction prices, for callers in C. docs/FORMAT.md has the layouts and the questions.
+
+   The library is for x86-64 and the System V calling convention (Linux). `rt staticlib exports` proves it and writes it to
+   target/staticlib/libexports.a; link with
+
+       cc -Iinclude yours.c target/staticlib/libexports.a
+
+   It needs memcpy and memset of the C library, and nothing else.
+
+   Every function takes any bytes, comes to an end, and answers by value. It reads the bytes that it is given and no others, keeps no
+   pointer, allocates nothing, and has no state: any number of threads may call at once. All that is proved of the answers is said in
+   docs/TRUST.md; that these declarations fit the library is tested and not proved.
+
+   A pointer must not be null, even where the length is 0: give the address of anything then. The `len` bytes from it on must be there
+   to read, and must not change during the call. */
+
+#ifndef GIMLETSORREL_H
+#define GIMLETSORREL_H
+
+#include <stddef.h>
+#include <stdint.h>
+
+#ifdef __cplusplus
+extern "C" {
+#endif
+
+/* The greatest value of a book. */
+struct gimletsorrel_worth {
+    uint32_t number; /* 0, or the number of the refusal: 1 to 5, or 16 */
+    uint32_t value;  /* the greatest value in credits; 0 after a refusal */
+};
+
+/* The answer to a call. After a refusal everything but the number is 0. */
+struct gimletsorrel_prices {
+    uint32_t number;    /* 0 for acceptance, or the number of the first question answered no: 1 to 15 */
+    uint32_t w;         /* how many winners there are: 0 to 6 */
+    uint32_t q;         /* the denominator of the prices: 1 to 10,000 */
+    uint64_t prices[6]; /* place k: q times the price of winner k in credits; places from w on are 0 */
+};
+
+/* Text of at most 128 bytes, in ASCII; no zero byte ends it. */
+struct gimletsorrel_text {
+    uint8_t bytes[128]; /* the first `len` are the text, and the others 0 */
+    size_t len;
+};
+
+/* The greatest value of a book with clients discarded: bit 0 of `discard` is client 1. What follows the book is not looked at. */
+struct gimletsorrel_worth gimletsorrel_greatest_value(const uint8_t *book, size_t len, uint8_t discard);
+
+/* The answer to a call: a book, and the sheet from the byte after it to the end. */
+struct gimletsorrel_prices gimletsorrel_judge_sheet(const uint8_t *input, size_t len);
+
+/* What the program prints for a call: its price list, or its refusal. */
+struct gimletsorrel_text gimletsorrel_price_list(const uint8_t *input, size_t len);
+
+#ifdef __cplusplus
+}
+#endif
+
+#endif

@@ -1,0 +1,75 @@
+//! A call as text: the lines that `assemble` reads, with the figures beside them as comments.
+
+use crate::explain;
+use crate::library::{self, Reply};
+use crate::parts::{book_of, sheet_of, weights_of, BookPart};
+use crate::show_book::book_lines;
+use crate::show_sheet::{balance_lines, sheet_lines};
+use crate::sums::Sums;
+use reference::questions::question_1;
+
+/// The text of a call. Where question 1, 2 or 6 stops it, which and where, and what could be shown.
+pub struct Shown {
+    pub text: String,
+    pub stopped: Option<String>,
+}
+
+pub fn show(input: &[u8]) -> Shown {
+    let reply = library::ask(input);
+    let Some(part) = book_of(input) else {
+        let number = if question_1(input) { 2 } else { 1 };
+        return stopped(opening(&reply), number, input);
+    };
+    let start = opening(&reply) + &book_lines(&part);
+    let Some(sheet_part) = sheet_of(&part) else {
+        return stopped(start, 6, input);
+    };
+    let sheet = &sheet_part.sheet;
+    let weights = weights_of(input, &part.book, sheet);
+    let sums = weights.as_ref().map(|weights| Sums { sheet, weights });
+    let text = start
+        + &value_line(input, &part, sums.as_ref())
+        + &sheet_lines(&part.book, sheet, sums.as_ref(), &reply)
+        + &sums.map_or(String::new(), |sums| balance_lines(&sums));
+    Shown {
+        text,
+        stopped: None,
+    }
+}
+
+fn stopped(text: String, number: u32, input: &[u8]) -> Shown {
+    let places = explain::places(number, input).join("; ");
+    let stop = format!("question {number} stops it: {places}");
+    Shown {
+        text: format!("{text}\n# Nothing more can be shown, for {stop}\n"),
+        stopped: Some(stop),
+    }
+}
+
+fn opening(reply: &Reply) -> String {
+    let answer = reply.list.replace('\n', "\n#     ");
+    format!(
+        "# The proved library's answer, which alone counts:\n#     {answer}\n\
+         # All else after a # is for redoing the sum; '!' marks a figure that breaks its bound.\n\n"
+    )
+}
+
+/// v, the library's, beside the value of the winners; or why there are no figures.
+fn value_line(input: &[u8], part: &BookPart, sums: Option<&Sums>) -> String {
+    let Some(v) = library::greatest(input) else {
+        return "\n# The book is not sound, so there is no v, σ or balance.\n".to_string();
+    };
+    match sums {
+        None => {
+            format!("\n# v = {v}. The winners are no combination, so there is no σ or balance.\n")
+        }
+        Some(sums) => {
+            let short = sums.short_of_v(&part.book);
+            let mark = if short == 0 { "" } else { " !" };
+            format!(
+                "\n# 9: v = {v}; the winners' amounts make {}, {short} less{mark}\n",
+                v - short
+            )
+        }
+    }
+}
