@@ -1,21 +1,25 @@
 -- A bid at its place in the bytes, its weight in an array, and what a sound book gives of both. Cited by the proofs of src/setup.rt,
 -- src/search.rt and src/value.rt. Assumes nothing.
 use mathlib.Core.Path.{_≡_, sym, ap, ap₂, _∙_}
+use mathlib.Core.Bool.{Bool, true, false, _||_}
 use mathlib.Core.List.{List, [], _∷_}
 use Prim.Native.Nat.{ℕ, _+_, _*_, _-_, _≤_, _<_}
-use native.Mathlib.Nat.{mul-le-mul-right}
+use native.Mathlib.Nat.{add-zero, mul-le-mul-right}
 use native.Mathlib.Numerals.{add-one}
 use native.Mathlib.Omega.{arith}
+use lib.Dec.{leb, lit<}
 use lib.ListN.{length, getD, take}
 use Rattle.book.specs.Bytes.{byte, field, bytes-at}
 use Rattle.book.specs.Book.{Bid, bid-at, client-of}
 use Rattle.book.specs.Layout.{K-of, m-of, bids-from, bid-here, book-in}
 use Rattle.book.specs.Questions.{book-formula}
 use Rattle.book.specs.Sound.{Sound}
-use Rattle.book.proofs.Places.{bid-at-stands}
+use Rattle.book.proofs.Next.{bytes-length}
+use Rattle.book.proofs.Places.{bid-at-stands, bytes-entry}
 use Rattle.market.specs.Market.{fits, less}
 use Rattle.combinations.specs.Combinations.{amount-of}
 use Rattle.hours.proofs.Fours.{bytes-take, less-take}
+use Rattle.hours.proofs.Rows.{fit-fails, fit-last}
 use Rattle.winners.specs.Needs.{Row, Placed, Owned, Under, Links, Largest, Prepared, weight-in}
 
 -- the bid that stands at a loop's place
@@ -72,10 +76,29 @@ four-bytes bs at =
     let three : at + 2 + 1 ≡ at + 3 = omega arith in
     rw (two, three)
 
--- the four bytes read, cut to the book's kinds: the test of the hours, and what is left
-pub fits-here : (bs : List ℕ) (k at : ℕ) (row ls : List ℕ) → k ≤ 4 → row ≡ bytes-at 4 at bs → fits (take k row) ls ≡ fits (bytes-at k at bs) ls
-fits-here bs k at row ls h e = ap (λ (hs : List ℕ). fits hs ls) (ap (λ (xs : List ℕ). take k xs) e ∙ bytes-take k 4 at bs h)
+-- the test of the hours that stand at a place: where one kind's fails, and where the first three hold
+module _ (bs : List ℕ) (k at : ℕ) (left : List ℕ) (h : k ≤ 4) (e : length left ≡ 4) where
+  abbrev test : (kind : ℕ) → Bool
+  test j = leb k j || leb (byte (at + j) bs) (getD left j 0)
 
+  pub first-test : (t : Bool) → t ≡ (leb k 0 || leb (byte at bs) (getD left 0 0)) → t ≡ test 0
+  first-test t q = q ∙ ap (λ (x : ℕ). leb k 0 || leb (byte x bs) (getD left 0 0)) (sym (add-zero at))
+
+  same-test : (j : ℕ) → j < 4 → test j ≡ (leb k j || leb (getD (bytes-at 4 at bs) j 0) (getD left j 0))
+  same-test j l = ap (λ (x : ℕ). leb k j || leb x (getD left j 0)) (sym (bytes-entry 4 at j bs 0 l))
+
+  cut : fits (take k (bytes-at 4 at bs)) (take k left) ≡ fits (bytes-at k at bs) (take k left)
+  cut = ap (λ (hs : List ℕ). fits hs (take k left)) (bytes-take k 4 at bs h)
+
+  pub here-fails : (j : ℕ) → j < 4 → test j ≡ false → false ≡ fits (bytes-at k at bs) (take k left)
+  here-fails j l n = fit-fails k (bytes-at 4 at bs) left (bytes-length 4 at bs) e j (sym (same-test j l) ∙ n) ∙ cut
+
+  pub here-last : (r : Bool) → test 0 ≡ true → test 1 ≡ true → test 2 ≡ true → r ≡ test 3 → r ≡ fits (bytes-at k at bs) (take k left)
+  here-last r a b c d =
+      fit-last k (bytes-at 4 at bs) left (bytes-length 4 at bs) e r (sym (same-test 0 (lit< tt)) ∙ a) (sym (same-test 1 (lit< tt)) ∙ b) (sym (same-test 2 (lit< tt)) ∙ c)
+      (d ∙ same-test 3 (lit< tt)) ∙ cut
+
+-- the four bytes read, cut to the book's kinds: what is left
 pub rest-here : (bs : List ℕ) (k at : ℕ) (row ls after : List ℕ) → k ≤ 4 → row ≡ bytes-at 4 at bs → after ≡ less ls row → take k after ≡ less (take k ls) (bytes-at k at bs)
 rest-here bs k at row ls after h e r =
     ap (λ (xs : List ℕ). take k xs) r ∙ less-take k ls row ∙ ap (λ (hs : List ℕ). less (take k ls) hs) (ap (λ (xs : List ℕ). take k xs) e ∙ bytes-take k 4 at bs h)

@@ -34,7 +34,7 @@ fn may_raise(book: &[u8], k: usize, at: usize, left: [u8; 4], top: u64, most: u6
     ensures { λ r. ⌜ r ≡ (ltb top most && fits (bytes-at k at (now (book .entry))) (take k left)) ⌝ }
 {
     if beats(most, top) {
-        return hours::fit(k, places::row(book, at), left);
+        return places::fit(book, k, at, left);
     }
     false
 }

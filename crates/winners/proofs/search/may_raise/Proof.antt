@@ -1,18 +1,14 @@
 -- `winners::search::may_raise` meets its contract. Assumes nothing.
 use borrow.Author.Needs.{needs}
 use mathlib.Core.Path.{sym, _∙_}
-use Rattle.winners.proofs.Placing.{fits-here}
 use Rattle.winners.proofs.search.may_raise.Statement.{statement}
 use Rattle.winners.proofs.search.may_raise.Tie as tie
 
 returns : tie.Need-returns
-returns c =
-    let s = c .before .before .before .before .before in
-    rw (sym (c .before .before .before .beats .ensures) ∙ c .before .before .if1 .taken)
-    (c .fit .ensures ∙ fits-here (s .args .book .now) (s .args .k) (s .args .at) _ _ (s .pre .kinds) (c .before .row .ensures))
+returns c = rw (sym (c .before .before .beats .ensures) ∙ c .before .if1 .taken) (c .fit .ensures)
 
 returns-2 : tie.Need-returns-2
 returns-2 c = rw (sym (c .before .beats .ensures) ∙ c .if1 .left)
 
 pub may-raise-spec : {M : Type 1} → statement M
-may-raise-spec = tie.close (tie.spec (λ c κs. search needs) (λ c κs. search needs) (λ c κs. search needs) returns returns-2)
+may-raise-spec = tie.close (tie.spec (λ c κs. search needs) (λ c κs. search needs) returns returns-2)
