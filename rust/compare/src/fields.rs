@@ -97,10 +97,15 @@ pub fn of_book(example: &Example) -> Vec<Input> {
     add("client fewer", &|book| {
         book.status.pop();
     });
-    for m in [48, 49] {
-        add("48 or 49 bids", &|book| fill_up(book, m));
-    }
+    add("49 bids", &|book| fill_up(book, 49));
     inputs
+}
+
+/// The book filled up to 48 bids, which takes the reference long.
+pub fn filled_up(example: &Example) -> Input {
+    let mut book = example.book.clone();
+    fill_up(&mut book, 48);
+    example.with_book("48 bids", &book)
 }
 
 /// Repeats a client's bid, or another's, until the client has this many.

@@ -2,9 +2,9 @@
 
 use crate::{Example, Input};
 use generate::Rng;
-use reference::combinations::all_combinations;
+use reference::combinations::is_combination;
 use reference::sheet::Winner;
-use reference::{Multipliers, Sheet, Weights};
+use reference::{Book, Multipliers, Sheet, Weights};
 
 pub fn changed(rng: &mut Rng, example: &Example) -> Vec<Input> {
     let base = &example.sheet;
@@ -47,16 +47,31 @@ pub fn changed(rng: &mut Rng, example: &Example) -> Vec<Input> {
     });
 
     // Other combinations, with no multipliers or with those that their own σ would ask for.
-    let combinations = all_combinations(&example.book);
     for _ in 0..8 {
-        let list = rng.pick(&combinations);
-        let plain = plain_sheet(list);
+        let list = any_combination(rng, &example.book);
+        let plain = plain_sheet(&list);
         inputs.push(example.with_sheet("other combination", &plain));
-        let weights = Weights::of(&example.book, list);
-        let sheet = sheet_as_if_won(&weights, list);
+        let weights = Weights::from_values(&example.book, &example.values, &list);
+        let sheet = sheet_as_if_won(&weights, &list);
         inputs.push(example.with_sheet("other combination, balanced", &sheet));
     }
     inputs
+}
+
+/// Bids taken in a random order where they still make a combination, by rising client.
+fn any_combination(rng: &mut Rng, book: &Book) -> Vec<usize> {
+    let mut order: Vec<usize> = (1..=book.bids.len()).collect();
+    rng.shuffle(&mut order);
+    let tried = rng.index(0, order.len());
+    let mut list = Vec::new();
+    for &bid in &order[..tried] {
+        list.push(bid);
+        if !is_combination(book, &list) {
+            list.pop();
+        }
+    }
+    list.sort_by_key(|&bid| book.bid(bid).map(|bid| bid.client));
+    list
 }
 
 fn add_winner(sheet: &mut Sheet, bid: usize) {

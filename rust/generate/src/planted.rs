@@ -90,7 +90,7 @@ fn challenge(rng: &mut Rng, planted: &[Bid], client: usize) -> Bid {
 }
 
 /// Reserves that some bid meets exactly, or almost.
-fn set_reserves(rng: &mut Rng, book: &mut Book) {
+pub fn set_reserves(rng: &mut Rng, book: &mut Book) {
     for _ in 0..20 {
         let reserve: Vec<i128> = book.supply.iter().map(|_| rng.range(0, 10_000)).collect();
         let scale = rng.range(1, 10_000);
