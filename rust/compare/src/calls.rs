@@ -1,12 +1,12 @@
 //! The worked calls of a directory: each `NAME.call` must print the lines of `NAME.expected`.
 
-use crate::comparison::Comparison;
+use crate::comparison::Examiner;
 use crate::Input;
 use std::fs;
 use std::path::{Path, PathBuf};
 
 /// Puts all worked calls, each through the program too. There must be some.
-pub fn put(comparison: &mut Comparison, directory: &Path) -> Result<(), String> {
+pub fn put(examiner: &mut dyn Examiner, directory: &Path) -> Result<(), String> {
     let calls = names(directory)?;
     for call in &calls {
         let bytes = read(call)?;
@@ -19,7 +19,7 @@ pub fn put(comparison: &mut Comparison, directory: &Path) -> Result<(), String> 
             ));
         }
         let way = "worked call";
-        comparison.call_and_print(&Input { way, bytes })?;
+        examiner.call_and_print(&Input { way, bytes })?;
     }
     match calls.is_empty() {
         true => Err(format!("no calls in {}", directory.display())),

@@ -17,6 +17,18 @@ pub trait Printer {
     fn print(&self, input: &[u8]) -> Vec<u8>;
 }
 
+/// What is shown inputs, one after the other. It gives the right answer's number, or says why no
+/// more need be shown.
+pub trait Examiner {
+    /// Many inputs will have this example's book.
+    fn share(&mut self, example: &Example);
+    fn call(&mut self, input: &Input) -> Result<u8, String>;
+    /// A call that also goes through the program, where there is one.
+    fn call_and_print(&mut self, input: &Input) -> Result<u8, String>;
+    /// A question for a greatest value, which is given too.
+    fn value(&mut self, way: &'static str, book: &[u8], discard: u8) -> Result<(u8, u64), String>;
+}
+
 /// Both sides, and what has been compared so far.
 pub struct Comparison<'a> {
     other: &'a dyn Certifier,
@@ -42,13 +54,25 @@ impl<'a> Comparison<'a> {
         self
     }
 
-    /// Says that many inputs will have this example's book.
-    pub fn share(&mut self, example: &Example) {
+    fn print(&mut self, input: &Input, lines: &str, number: u8) -> Result<(), String> {
+        if let Some((program, _)) = self.program {
+            let printed = program.print(&input.bytes);
+            let printed = String::from_utf8_lossy(&printed);
+            let way = format!("{}, the program", input.way);
+            same(&way, &input.bytes, &lines, &&*printed)?;
+            self.counts.printed.note(input.way, number);
+        }
+        Ok(())
+    }
+}
+
+impl Examiner for Comparison<'_> {
+    fn share(&mut self, example: &Example) {
         self.memory.share(&example.book, &example.values);
     }
 
-    /// Compares the answers to a call, field by field, and the printed text. Gives the number.
-    pub fn call(&mut self, input: &Input) -> Result<u8, String> {
+    /// Compares the answers to a call, field by field, and the printed text.
+    fn call(&mut self, input: &Input) -> Result<u8, String> {
         let bytes = &input.bytes;
         let outcome = outcome(bytes, |book| self.memory.values(book));
         let expected = answer(&outcome);
@@ -67,8 +91,7 @@ impl<'a> Comparison<'a> {
         Ok(expected.number)
     }
 
-    /// Compares a call that goes through the program in any case, if there is one.
-    pub fn call_and_print(&mut self, input: &Input) -> Result<u8, String> {
+    fn call_and_print(&mut self, input: &Input) -> Result<u8, String> {
         let printed = self.counts.printed.count();
         let number = self.call(input)?;
         if self.counts.printed.count() == printed {
@@ -78,36 +101,11 @@ impl<'a> Comparison<'a> {
         Ok(number)
     }
 
-    fn print(&mut self, input: &Input, lines: &str, number: u8) -> Result<(), String> {
-        if let Some((program, _)) = self.program {
-            let printed = program.print(&input.bytes);
-            let printed = String::from_utf8_lossy(&printed);
-            same(
-                &format!("{}, the program", input.way),
-                &input.bytes,
-                &lines,
-                &&*printed,
-            )?;
-            self.counts.printed.note(input.way, number);
-        }
-        Ok(())
-    }
-
-    /// Compares a greatest value. Gives the number and the value.
-    pub fn value(
-        &mut self,
-        way: &'static str,
-        book: &[u8],
-        discard: u8,
-    ) -> Result<(u8, u64), String> {
+    fn value(&mut self, way: &'static str, book: &[u8], discard: u8) -> Result<(u8, u64), String> {
         let expected = greatest_by(book, discard, |book| self.memory.values(book));
         let given = self.other.greatest_value(book, discard);
-        same(
-            &format!("{way}, discard byte {discard}"),
-            book,
-            &expected,
-            &given,
-        )?;
+        let with_byte = format!("{way}, discard byte {discard}");
+        same(&with_byte, book, &expected, &given)?;
         self.counts.values += 1;
         self.counts.full_values += u64::from(is_over_full(book, expected.0));
         self.counts.tally.note(way, expected.0);

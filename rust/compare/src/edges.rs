@@ -13,7 +13,7 @@ pub mod discards;
 pub mod outside;
 pub mod sheets;
 
-use crate::comparison::Comparison;
+use crate::comparison::Examiner;
 use crate::Input;
 
 /// A call and its number.
@@ -46,13 +46,13 @@ pub fn calls() -> Vec<Edge> {
 }
 
 /// Puts all edges, each call through the program too, and holds the answers to what they must be.
-pub fn put(comparison: &mut Comparison) -> Result<(), String> {
+pub fn put(examiner: &mut dyn Examiner) -> Result<(), String> {
     for (place, edge) in calls().iter().enumerate() {
-        let number = comparison.call_and_print(&edge.input)?;
+        let number = examiner.call_and_print(&edge.input)?;
         expect(edge.input.way, place, &edge.number, &number)?;
     }
     for (place, value) in discards::values().iter().enumerate() {
-        let answer = comparison.value("edge of 16", &value.book, value.discard)?;
+        let answer = examiner.value("edge of 16", &value.book, value.discard)?;
         expect("edge of 16", place, &value.answer, &answer)?;
     }
     Ok(())

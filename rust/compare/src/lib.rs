@@ -39,7 +39,7 @@ use reference::combinations::Values;
 use reference::{Book, Sheet, Weights};
 use std::rc::Rc;
 
-pub use comparison::{Certifier, Comparison, Printer};
+pub use comparison::{Certifier, Comparison, Examiner, Printer};
 pub use memory::Memory;
 pub use tally::{Counts, Tally};
 
@@ -92,15 +92,36 @@ impl Example {
     pub fn bytes(&self) -> Vec<u8> {
         write::input(&self.book, &self.sheet)
     }
+}
 
-    fn with_book(&self, way: &'static str, book: &Book) -> Input {
-        let bytes = write::input(book, &self.sheet);
-        Input { way, bytes }
+/// Inputs that differ from an example, gathered one change at a time.
+pub struct Changes<'a> {
+    pub example: &'a Example,
+    pub inputs: Vec<Input>,
+}
+
+impl<'a> Changes<'a> {
+    pub fn of(example: &'a Example) -> Changes<'a> {
+        Changes {
+            example,
+            inputs: Vec::new(),
+        }
     }
 
-    fn with_sheet(&self, way: &'static str, sheet: &Sheet) -> Input {
-        let bytes = write::input(&self.book, sheet);
-        Input { way, bytes }
+    /// The example with its book changed.
+    pub fn book(&mut self, way: &'static str, change: impl Fn(&mut Book)) {
+        let mut book = self.example.book.clone();
+        change(&mut book);
+        let bytes = write::input(&book, &self.example.sheet);
+        self.inputs.push(Input { way, bytes });
+    }
+
+    /// The example with its sheet changed.
+    pub fn sheet(&mut self, way: &'static str, change: impl Fn(&mut Sheet)) {
+        let mut sheet = self.example.sheet.clone();
+        change(&mut sheet);
+        let bytes = write::input(&self.example.book, &sheet);
+        self.inputs.push(Input { way, bytes });
     }
 }
 

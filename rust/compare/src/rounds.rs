@@ -1,67 +1,78 @@
 //! Rounds of generated inputs: an example each, and what comes from it.
 
-use crate::comparison::Comparison;
-use crate::{book_inputs, fields, inputs, raw, sheet_inputs, Example, Input};
+use crate::comparison::Examiner;
+use crate::{book_inputs, fields, inputs, multipliers, raw, sheet_inputs, Example, Input};
 use generate::full::{varied, Kind};
+use generate::planted::challenged_book;
 use generate::{write, Rng};
 
 /// Puts the inputs from `rounds` examples. Most examples are small, and all that comes from them is
-/// put; one in ten is of any size, with fewer inputs and one over a book filled up.
-pub fn rounds(comparison: &mut Comparison, rng: &mut Rng, rounds: usize) -> Result<(), String> {
+/// put; one in ten is of any size, with fewer inputs and one over a book filled up. With each goes an
+/// example of six winners where one set of them is challenged, each set in its turn.
+pub fn rounds(examiner: &mut dyn Examiner, rng: &mut Rng, rounds: usize) -> Result<(), String> {
     for round in 0..rounds {
         match round % 10 {
-            9 => one_of_any_size(comparison, rng)?,
-            _ => small(comparison, rng)?,
+            9 => one_of_any_size(examiner, rng)?,
+            _ => small(examiner, rng)?,
         }
+        challenged(examiner, rng, round % 62 + 1)?;
     }
     Ok(())
 }
 
-fn small(comparison: &mut Comparison, rng: &mut Rng) -> Result<(), String> {
+fn small(examiner: &mut dyn Examiner, rng: &mut Rng) -> Result<(), String> {
     let example = Example::small(rng);
-    comparison.share(&example);
+    examiner.share(&example);
     let inputs = inputs(rng, &example);
-    put(comparison, rng, inputs, usize::MAX)?;
-    discards(comparison, &example)
+    put(examiner, rng, inputs, usize::MAX)?;
+    discards(examiner, &example)
 }
 
-fn one_of_any_size(comparison: &mut Comparison, rng: &mut Rng) -> Result<(), String> {
+fn one_of_any_size(examiner: &mut dyn Examiner, rng: &mut Rng) -> Result<(), String> {
     let example = Example::any(rng);
-    comparison.share(&example);
+    examiner.share(&example);
     let inputs = inputs(rng, &example);
-    put(comparison, rng, inputs, 40)?;
-    comparison.call(&fields::filled_up(&example))?;
-    discards(comparison, &example)
+    put(examiner, rng, inputs, 40)?;
+    examiner.call(&fields::filled_up(&example))?;
+    discards(examiner, &example)
+}
+
+fn challenged(examiner: &mut dyn Examiner, rng: &mut Rng, set: usize) -> Result<(), String> {
+    let book = challenged_book(rng, set);
+    let example = Example::of(rng, book);
+    examiner.share(&example);
+    let inputs = multipliers::about_sets(rng, &example);
+    put(examiner, rng, inputs, usize::MAX)
 }
 
 /// A full book of this kind: all 64 values; the accepted call; calls that differ from it in the
 /// sheet; and a few that differ in the book, for which the reference lists all combinations anew.
-pub fn full_round(comparison: &mut Comparison, rng: &mut Rng, kind: &Kind) -> Result<(), String> {
+pub fn full_round(examiner: &mut dyn Examiner, rng: &mut Rng, kind: &Kind) -> Result<(), String> {
     let plain = kind.book(rng.bits() >> 1);
     let book = match rng.chance(30) {
         true => varied(rng, plain),
         false => plain,
     };
     let example = Example::of(rng, book);
-    comparison.share(&example);
-    discards(comparison, &example)?;
+    examiner.share(&example);
+    discards(examiner, &example)?;
     let unchanged = Input {
         way: "full, unchanged",
         bytes: example.bytes(),
     };
-    comparison.call_and_print(&unchanged)?;
+    examiner.call_and_print(&unchanged)?;
     let in_sheet = sheet_inputs(rng, &example);
-    put(comparison, rng, in_sheet, 150)?;
+    put(examiner, rng, in_sheet, 150)?;
     let in_book = book_inputs(&example);
-    put(comparison, rng, in_book, 2)?;
+    put(examiner, rng, in_book, 2)?;
     let in_bytes = raw::changed(rng, &unchanged.bytes);
-    put(comparison, rng, in_bytes, 6)
+    put(examiner, rng, in_bytes, 6)
 }
 
 /// Puts the first of the calls and others at random, as many as `most` in all, and now and then
 /// asks for a greatest value with any discard byte.
 fn put(
-    comparison: &mut Comparison,
+    examiner: &mut dyn Examiner,
     rng: &mut Rng,
     mut inputs: Vec<Input>,
     most: usize,
@@ -71,21 +82,21 @@ fn put(
         inputs.truncate(most);
     }
     for input in &inputs {
-        comparison.call(input)?;
+        examiner.call(input)?;
         if rng.chance(2) {
-            comparison.value("value of any bytes", &input.bytes, rng.bits() as u8)?;
+            examiner.value("value of any bytes", &input.bytes, rng.bits() as u8)?;
         }
     }
     Ok(())
 }
 
 /// Every discard byte that is allowed, and those that name one client too many.
-fn discards(comparison: &mut Comparison, example: &Example) -> Result<(), String> {
+fn discards(examiner: &mut dyn Examiner, example: &Example) -> Result<(), String> {
     let book = write::book(&example.book);
     let n = example.book.status.len();
     let too_many = (n..8).map(|bit| 1 << bit);
     for discard in too_many.chain(0..1 << n) {
-        comparison.value("discard byte", &book, discard)?;
+        examiner.value("discard byte", &book, discard)?;
     }
     Ok(())
 }
