@@ -62,6 +62,7 @@ fn report(options: &Options, counts: &Counts) -> Result<String, String> {
         None => Vec::new(),
     };
     match (counts.tally.missing(16).as_slice(), printed.as_slice()) {
+        ([], []) if !counts.accepted.are_all_there() => Err(format!("{text}some K, n or w was never accepted")),
         ([], []) => Ok(text),
         (missing, []) => Err(format!("{text}numbers not reached: {missing:?}")),
         (_, missing) => Err(format!("{text}numbers not reached through the program: {missing:?}")),

@@ -82,6 +82,9 @@ impl Examiner for Comparison<'_> {
         self.counts.calls += 1;
         self.counts.full_calls += u64::from(is_over_full(bytes, expected.number));
         self.counts.tally.note(input.way, expected.number);
+        if expected.number == 0 {
+            self.counts.accepted.note(bytes, expected.w);
+        }
         match self.program {
             Some((_, every)) if self.counts.calls % every == 0 => {
                 self.print(input, &lines, expected.number)?
@@ -107,7 +110,8 @@ impl Examiner for Comparison<'_> {
         let with_byte = format!("{way}, discard byte {discard}");
         same(&with_byte, book, &expected, &given)?;
         self.counts.values += 1;
-        self.counts.full_values += u64::from(is_over_full(book, expected.0));
+        let full = expected.0 == 0 && is_over_full(book, 0);
+        self.counts.full_values += u64::from(full);
         self.counts.tally.note(way, expected.0);
         Ok(expected)
     }

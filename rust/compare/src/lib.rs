@@ -19,7 +19,8 @@
 //!
 //! - `comparison`: one input put to the reference and to another implementation
 //! - `memory`: greatest values kept from one input to the next
-//! - `tally`: how often each number was reached, and by which way of changing
+//! - `tally`, `shapes`: how often each number was reached, and by which way of changing; what the
+//!   accepted calls were like
 
 #![forbid(unsafe_code)]
 
@@ -31,6 +32,7 @@ pub mod memory;
 pub mod multipliers;
 pub mod raw;
 pub mod rounds;
+pub mod shapes;
 pub mod tally;
 pub mod winners;
 

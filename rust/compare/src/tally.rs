@@ -1,5 +1,6 @@
 //! How often each number was reached, and how much was compared.
 
+use crate::shapes::Shapes;
 use std::collections::BTreeMap;
 use std::fmt;
 
@@ -19,7 +20,8 @@ pub struct Counts {
     pub printed: Tally,
     pub calls: u64,
     pub values: u64,
-    /// Calls over sound books of 48 bids, and values of such books.
+    pub accepted: Shapes,
+    /// Calls over sound books of 48 bids, and values that such books have.
     pub full_calls: u64,
     pub full_values: u64,
 }
@@ -80,6 +82,7 @@ impl fmt::Display for Counts {
             "{alike} inputs answered alike: {} calls, {} values",
             self.calls, self.values
         )?;
+        writeln!(out, "{}", self.accepted)?;
         let (calls, values) = (self.full_calls, self.full_values);
         writeln!(out, "over full books: {calls} calls, {values} values")?;
         writeln!(out, "through the program: {} calls", self.printed.count())
