@@ -72,6 +72,16 @@ fn expect<T: PartialEq + std::fmt::Debug>(
     }
 }
 
+/// An edge for each value of a field and its number.
+pub fn each<T: Copy>(
+    way: &'static str,
+    values: &[(T, u8)],
+    bytes: impl Fn(T) -> Vec<u8>,
+) -> Vec<Edge> {
+    let edge = |&(value, number): &(T, u8)| Edge::new(way, number, bytes(value));
+    values.iter().map(edge).collect()
+}
+
 /// `bytes` with the bytes from place `at` on replaced.
 pub fn with(bytes: &[u8], at: usize, new: &[u8]) -> Vec<u8> {
     let mut bytes = bytes.to_vec();

@@ -33,33 +33,30 @@ fn around_g(value: i128) -> Vec<i128> {
 /// Changes of the book, the sheet staying as it is.
 pub fn of_book(example: &Example) -> Vec<Input> {
     let mut changes = Changes::of(example);
-    for kind in 0..example.book.supply.len() {
-        of_kind(&mut changes, kind);
-    }
-    for client in 1..=example.book.status.len() {
-        of_client(&mut changes, client);
-    }
-    for place in 0..example.book.bids.len() {
-        of_bid(&mut changes, place);
-    }
+    let book = &example.book;
+    (0..book.supply.len()).for_each(|kind| of_kind(&mut changes, kind));
+    (1..=book.status.len()).for_each(|client| of_client(&mut changes, client));
+    (0..book.bids.len()).for_each(|place| of_bid(&mut changes, place));
     counts(&mut changes);
     changes.inputs
 }
 
 fn of_kind(changes: &mut Changes, kind: usize) {
     let base = &changes.example.book;
-    for new in around(base.supply[kind], 0, 200, 8) {
-        changes.book("field supply", |book| book.supply[kind] = new);
-    }
-    for new in around(base.reserve[kind], 0, 10_000, 16) {
-        changes.book("field reserve", |book| book.reserve[kind] = new);
-    }
+    let supplies = around(base.supply[kind], 0, 200, 8);
+    changes.books("field supply", supplies, |book, new| {
+        book.supply[kind] = new
+    });
+    let reserves = around(base.reserve[kind], 0, 10_000, 16);
+    changes.books("field reserve", reserves, |book, new| {
+        book.reserve[kind] = new
+    });
 }
 
 fn of_client(changes: &mut Changes, client: usize) {
-    for new in around(changes.example.book.status[client - 1], 0, 1, 8) {
-        changes.book("field status", |book| book.status[client - 1] = new);
-    }
+    let at = client - 1;
+    let statuses = around(changes.example.book.status[at], 0, 1, 8);
+    changes.books("field status", statuses, |book, new| book.status[at] = new);
     for count in [8, 9] {
         changes.book("eight or nine bids", |book| {
             with_bids_of(book, client, count)
@@ -70,29 +67,25 @@ fn of_client(changes: &mut Changes, client: usize) {
 fn of_bid(changes: &mut Changes, place: usize) {
     let base = &changes.example.book;
     let bid = &base.bids[place];
-    for new in around(bid.client as i128, 1, base.status.len() as i128, 8) {
-        changes.book("field client", |book| {
-            book.bids[place].client = new as usize
-        });
-    }
-    let at_reserve = base.reserves(bid) - 1..=base.reserves(bid) + 1;
-    for new in (around(bid.amount, 1, 1_000_000, 32).into_iter()).chain(at_reserve) {
-        changes.book("field amount", |book| book.bids[place].amount = new);
-    }
+    let clients = around(bid.client as i128, 1, base.status.len() as i128, 8);
+    changes.books("field client", clients, |book, new| {
+        book.bids[place].client = new as usize
+    });
+    let mut amounts = around(bid.amount, 1, 1_000_000, 32);
+    amounts.extend(base.reserves(bid) - 1..=base.reserves(bid) + 1);
+    changes.books("field amount", amounts, |book, new| {
+        book.bids[place].amount = new
+    });
     for kind in 0..bid.hours.len() {
-        of_hours(changes, place, kind);
+        let hours = around(bid.hours[kind], 0, base.supply[kind], 8);
+        changes.books("field hours", hours, |book, new| {
+            book.bids[place].hours[kind] = new
+        });
     }
     changes.book("field hours none", |book| book.bids[place].hours.fill(0));
     changes.book("bid left out", |book| {
         book.bids.remove(place);
     });
-}
-
-fn of_hours(changes: &mut Changes, place: usize, kind: usize) {
-    let base = &changes.example.book;
-    for new in around(base.bids[place].hours[kind], 0, base.supply[kind], 8) {
-        changes.book("field hours", |book| book.bids[place].hours[kind] = new);
-    }
 }
 
 /// K, n and m, with the lists that belong to them.
@@ -167,50 +160,39 @@ fn drop_kind(book: &mut Book) {
 pub fn of_sheet(example: &Example) -> Vec<Input> {
     let mut changes = Changes::of(example);
     let base = &example.sheet;
-    for new in around(base.q, 1, 10_000, 32) {
-        changes.sheet("field q", |sheet| sheet.q = new);
-    }
-    for new in around(base.s, 1, 10_000, 32) {
-        changes.sheet("field s", |sheet| sheet.s = new);
-    }
-    for new in around_g(base.g) {
-        changes.sheet("field G", |sheet| sheet.g = new);
-    }
-    for j in 0..base.w() {
-        of_winner(&mut changes, j);
-    }
-    for set in base.set_numbers() {
-        of_set(&mut changes, set);
-    }
+    changes.sheets("field q", around(base.q, 1, 10_000, 32), |sheet, new| {
+        sheet.q = new
+    });
+    changes.sheets("field s", around(base.s, 1, 10_000, 32), |sheet, new| {
+        sheet.s = new
+    });
+    changes.sheets("field G", around_g(base.g), |sheet, new| sheet.g = new);
+    (0..base.w()).for_each(|j| of_winner(&mut changes, j));
+    base.set_numbers().for_each(|set| of_set(&mut changes, set));
     changes.inputs
 }
 
 fn of_winner(changes: &mut Changes, j: usize) {
-    let winner = &changes.example.sheet.winners[j];
+    let winner = changes.example.sheet.winners[j];
     let reserve = changes.example.sheet.q * changes.example.weights.rho[j];
-    for new in around(winner.x, 0, 10_000_000_000, 64) {
-        changes.sheet("field X", |sheet| sheet.winners[j].x = new);
-    }
-    for new in around(winner.x, 0, reserve, 64) {
-        changes.sheet("field X at reserve", |sheet| sheet.winners[j].x = new);
-    }
-    for new in around(winner.z, 0, 10_000, 32) {
-        changes.sheet("field Z", |sheet| sheet.winners[j].z = new);
-    }
-    for new in around(winner.r, 0, LARGE, 64) {
-        changes.sheet("field R", |sheet| sheet.winners[j].r = new);
-    }
-    for new in around(winner.t, 0, LARGE, 64) {
-        changes.sheet("field T", |sheet| sheet.winners[j].t = new);
-    }
+    let in_range = around(winner.x, 0, 10_000_000_000, 64);
+    changes.sheets("field X", in_range, |sheet, new| sheet.winners[j].x = new);
+    let at_reserve = around(winner.x, 0, reserve, 64);
+    changes.sheets("field X at reserve", at_reserve, |sheet, new| {
+        sheet.winners[j].x = new
+    });
+    let z = around(winner.z, 0, 10_000, 32);
+    changes.sheets("field Z", z, |sheet, new| sheet.winners[j].z = new);
+    let r = around(winner.r, 0, LARGE, 64);
+    changes.sheets("field R", r, |sheet, new| sheet.winners[j].r = new);
+    let t = around(winner.t, 0, LARGE, 64);
+    changes.sheets("field T", t, |sheet, new| sheet.winners[j].t = new);
 }
 
 fn of_set(changes: &mut Changes, set: usize) {
-    let multipliers = &changes.example.sheet.sets[set];
-    for new in around(multipliers.y, 0, 10_000, 32) {
-        changes.sheet("field Y", |sheet| sheet.sets[set].y = new);
-    }
-    for new in around(multipliers.u, 0, LARGE, 64) {
-        changes.sheet("field U", |sheet| sheet.sets[set].u = new);
-    }
+    let multipliers = changes.example.sheet.sets[set];
+    let y = around(multipliers.y, 0, 10_000, 32);
+    changes.sheets("field Y", y, |sheet, new| sheet.sets[set].y = new);
+    let u = around(multipliers.u, 0, LARGE, 64);
+    changes.sheets("field U", u, |sheet, new| sheet.sets[set].u = new);
 }

@@ -118,6 +118,20 @@ impl<'a> Changes<'a> {
         self.inputs.push(Input { way, bytes });
     }
 
+    /// The example with one field of its book set to each of these values.
+    pub fn books(&mut self, way: &'static str, values: Vec<i128>, set: impl Fn(&mut Book, i128)) {
+        for value in values {
+            self.book(way, |book| set(book, value));
+        }
+    }
+
+    /// The example with one field of its sheet set to each of these values.
+    pub fn sheets(&mut self, way: &'static str, values: Vec<i128>, set: impl Fn(&mut Sheet, i128)) {
+        for value in values {
+            self.sheet(way, |sheet| set(sheet, value));
+        }
+    }
+
     /// The example with its sheet changed.
     pub fn sheet(&mut self, way: &'static str, change: impl Fn(&mut Sheet)) {
         let mut sheet = self.example.sheet.clone();

@@ -10,9 +10,7 @@ use reference::Sheet;
 
 pub fn changed(rng: &mut Rng, example: &Example) -> Vec<Input> {
     let mut changes = Changes::of(example);
-    for j in 0..example.sheet.w() {
-        of_one_winner(&mut changes, rng, j);
-    }
+    (0..example.sheet.w()).for_each(|j| of_one_winner(&mut changes, rng, j));
     for set in example.sheet.set_numbers() {
         of_one_set(&mut changes, rng, set);
         up_to_sigma(&mut changes, set);
@@ -94,22 +92,23 @@ fn up_to_sigma(changes: &mut Changes, set: usize) {
     let example = changes.example;
     let base = &example.sheet;
     let room = base.q * example.weights.sigma[set] - base.x_sum(set);
-    for past in [0, 1] {
-        changes.sheet("X of one set alone", |sheet| {
-            fill_set(sheet, example, set, past);
-        });
-    }
+    changes.sheets("X of one set alone", vec![0, 1], |sheet, past| {
+        fill_set(sheet, example, set, past);
+    });
     for k in (0..base.w()).filter(|&k| holds(set, k)) {
-        for room in [room, room + 1] {
-            changes.sheet("X of one up to a set's σ", |sheet| {
-                sheet.winners[k].x += room
-            });
-            changes.sheet("X up to a set's σ, balanced", |sheet| {
-                sheet.winners[k].x += room;
-                raise(sheet, k, -room);
-            });
-        }
+        one_raised(changes, k, room);
+        one_raised(changes, k, room + 1);
     }
+}
+
+fn one_raised(changes: &mut Changes, k: usize, by: i128) {
+    changes.sheet("X of one up to a set's σ", |sheet| {
+        sheet.winners[k].x += by
+    });
+    changes.sheet("X up to a set's σ, balanced", |sheet| {
+        sheet.winners[k].x += by;
+        raise(sheet, k, -by);
+    });
 }
 
 /// Discounts moved between two winners, the sum staying the same.
@@ -239,23 +238,26 @@ pub fn one_set_broken(example: &Example) -> Vec<Sheet> {
 /// Gives the members of a set its whole σ and `past`, as evenly as whole numbers allow, and the
 /// others nothing; the balances of question 14 are made up with R and T.
 fn fill_set(sheet: &mut Sheet, example: &Example, set: usize, past: i128) {
-    let members: Vec<usize> = (0..sheet.w()).filter(|&k| holds(set, k)).collect();
+    let mut members = set.count_ones();
     let mut left = sheet.q * example.weights.sigma[set] + past;
-    for winner in &mut sheet.winners {
+    for (k, winner) in sheet.winners.iter_mut().enumerate() {
         winner.x = 0;
+        if holds(set, k) {
+            let even = left / i128::from(members);
+            winner.x = even.min(sheet.q * example.weights.rho[k]);
+            left -= winner.x;
+            members -= 1;
+        }
     }
-    for (i, &k) in members.iter().enumerate() {
-        let even = left / (members.len() - i) as i128;
-        let x = even.min(sheet.q * example.weights.rho[k]);
-        sheet.winners[k].x = x;
-        left -= x;
-    }
-    for k in 0..sheet.w() {
-        let wanted = sheet.q * example.weights.sigma_of_one(k) - sheet.winners[k].x;
-        let there = sheet.g + sheet.sum_over_sets_holding(k, |set| set.u);
-        (sheet.winners[k].r, sheet.winners[k].t) = (0, 0);
-        raise(sheet, k, wanted - there);
-    }
+    (0..sheet.w()).for_each(|k| balance(sheet, example, k));
+}
+
+/// Makes up a winner's balance with R or T.
+fn balance(sheet: &mut Sheet, example: &Example, k: usize) {
+    let wanted = sheet.q * example.weights.sigma_of_one(k) - sheet.winners[k].x;
+    let there = sheet.g + sheet.sum_over_sets_holding(k, |set| set.u);
+    (sheet.winners[k].r, sheet.winners[k].t) = (0, 0);
+    raise(sheet, k, wanted - there);
 }
 
 /// The same sum, spread as if the distances were taken from the lesser of ρ(j) and σ(j).

@@ -9,12 +9,8 @@ use reference::{Book, Multipliers, Sheet, Weights};
 pub fn changed(rng: &mut Rng, example: &Example) -> Vec<Input> {
     let mut changes = Changes::of(example);
     let w = example.sheet.w();
-    for pair in 0..w * w {
-        exchanged(&mut changes, pair / w, pair % w);
-    }
-    for i in 0..w {
-        of_one(&mut changes, i);
-    }
+    (0..w * w).for_each(|pair| exchanged(&mut changes, pair / w, pair % w));
+    (0..w).for_each(|i| of_one(&mut changes, i));
     for bid in 0..=example.book.bids.len() + 1 {
         changes.sheet("winner added", |sheet| add_winner(sheet, bid));
     }
@@ -23,9 +19,7 @@ pub fn changed(rng: &mut Rng, example: &Example) -> Vec<Input> {
             add_winner(sheet, 1);
         }
     });
-    for _ in 0..8 {
-        other_combination(&mut changes, rng);
-    }
+    (0..8).for_each(|_| other_combination(&mut changes, rng));
     changes.inputs
 }
 

@@ -152,49 +152,45 @@ fn question_14() -> Vec<Edge> {
 
 /// U of sets that are not met exactly, R above reserve, T above zero.
 fn question_15() -> Vec<Edge> {
-    let singles = S {
-        g: 15,
-        sets: vec![(1, 0, 5), (2, 0, 5), (3, 1, 0)],
+    let edge = |number, sheet| over_a("edge of 15", number, sheet);
+    let singles = vec![(1, 0, 5), (2, 0, 5), (3, 1, 0)];
+    let winners = |g, winner| S {
+        g,
+        winners: vec![winner, winner],
         ..sheet_a()
     };
-    let winners = |number, g, winner| {
-        let winners = vec![winner, winner];
-        over_a(
-            "edge of 15",
-            number,
+    let (r, t) = (W { r: 5, ..x(20) }, W { t: 5, ..x(20) });
+    let both = W {
+        r: 1,
+        t: 1,
+        ..x(20)
+    };
+    vec![
+        edge(
+            15,
             S {
-                g,
-                winners,
+                g: 15,
+                sets: singles,
                 ..sheet_a()
             },
-        )
-    };
-    // All to one winner: its σ is met and the other has none, so U and T may stand.
-    let given = |first: W, second: W, g, sets: Vec<(usize, u32, u64)>| S {
-        winners: vec![first, second],
+        ),
+        edge(15, winners(15, r)),
+        edge(15, winners(25, t)),
+        edge(15, winners(20, both)),
+        // All to the first winner: σ of the second alone is not met.
+        edge(15, all_to_first(x(0), 0, vec![(2, 0, 40), (3, 1, 0)])),
+        edge(14, all_to_first(W { t: 5, ..x(0) }, 45, vec![(3, 1, 0)])),
+    ]
+}
+
+fn all_to_first(second: W, g: i64, sets: Vec<(usize, u32, u64)>) -> S {
+    let winners = vec![x(40), second];
+    S {
+        winners,
         g,
         sets,
         ..sheet_a()
-    };
-    let t = W { t: 5, ..x(0) };
-    let to_first = given(x(40), t, 45, vec![(3, 1, 0)]);
-    let kept = given(x(40), x(0), 0, vec![(2, 0, 40), (3, 1, 0)]);
-    vec![
-        over_a("edge of 15", 15, singles),
-        winners(15, 15, W { r: 5, ..x(20) }),
-        winners(15, 25, W { t: 5, ..x(20) }),
-        winners(
-            15,
-            20,
-            W {
-                r: 1,
-                t: 1,
-                ..x(20)
-            },
-        ),
-        over_a("edge of 15", 14, to_first),
-        over_a("edge of 15", 15, kept),
-    ]
+    }
 }
 
 /// Distances taken from the lesser of ρ and σ, in halves, as they are and mended with R.

@@ -1,6 +1,6 @@
 //! Edges of questions 1 to 5. A sound book without a sheet is refused by question 6.
 
-use super::{with, Edge};
+use super::{each, with, Edge};
 use generate::by_hand::{book_a, book_i, hex};
 
 /// Question 6's number, for a book that passes all questions before it.
@@ -12,6 +12,7 @@ pub fn edges() -> Vec<Edge> {
     edges.extend(counts());
     edges.extend(question_3());
     edges.extend(question_4());
+    edges.extend(other_bids());
     edges.extend(numbers_of_bids());
     edges.extend(question_5());
     edges
@@ -84,70 +85,69 @@ fn in_turn(count: u8) -> Vec<u8> {
 }
 
 fn counts() -> Vec<Edge> {
-    let edge = |number, bytes| Edge::new("edge of 2, counts", number, bytes);
-    let mut edges = Vec::new();
-    for (kinds, number) in [(0, 2), (1, SOUND), (4, SOUND), (5, 2), (255, 2)] {
-        edges.push(edge(number, bare(kinds, 1)));
-    }
-    for (clients, number) in [(0, 2), (1, SOUND), (6, SOUND), (7, 2), (255, 2)] {
-        edges.push(edge(number, bare(1, clients)));
-    }
-    for (bids, number) in [(0, SOUND), (1, SOUND), (47, SOUND), (48, SOUND), (49, 2)] {
-        edges.push(edge(number, book_of(6, &in_turn(bids))));
-    }
+    let way = "edge of 2, counts";
+    let kinds = [(0, 2), (1, SOUND), (4, SOUND), (5, 2), (255, 2)];
+    let clients = [(0, 2), (1, SOUND), (6, SOUND), (7, 2), (255, 2)];
+    let bids = [(0, SOUND), (1, SOUND), (47, SOUND), (48, SOUND), (49, 2)];
+    let mut edges = each(way, &kinds, |kinds| bare(kinds, 1));
+    edges.extend(each(way, &clients, |clients| bare(1, clients)));
+    edges.extend(each(way, &bids, |bids| book_of(6, &in_turn(bids))));
     edges
 }
 
 fn question_3() -> Vec<Edge> {
-    let edge = |number, bytes| Edge::new("edge of 3", number, bytes);
-    let mut edges = Vec::new();
-    for (supply, number) in [(0, SOUND), (200, SOUND), (201, 3), (255, 3)] {
-        edges.push(edge(number, with(&book_a(), 4, &[supply])));
+    let way = "edge of 3";
+    let supplies = [(0, SOUND), (200, SOUND), (201, 3), (255, 3)];
+    let reserves = [(0, SOUND), (10_000, SOUND), (10_001, 3), (65_535, 3)];
+    let statuses = [(0, SOUND), (1, SOUND), (2, 3), (255, 3)];
+    let mut edges = each(way, &supplies, |supply| with(&book_a(), 4, &[supply]));
+    edges.extend(each(way, &reserves, |reserve| {
+        with(&book_i(), 5, &u16::to_be_bytes(reserve))
+    }));
+    for client in 0..3 {
+        let of_client = |status| with(&book_a(), 8 + client, &[status]);
+        edges.extend(each(way, &statuses, of_client));
     }
-    for (reserve, number) in [(0, SOUND), (10_000, SOUND), (10_001, 3), (65_535, 3)] {
-        edges.push(edge(number, with(&book_i(), 5, &u16::to_be_bytes(reserve))));
-    }
-    for (status, number) in [(0, SOUND), (1, SOUND), (2, 3), (255, 3)] {
-        for client in 0..3 {
-            edges.push(edge(number, with(&book_a(), 8 + client, &[status])));
-        }
-    }
-    // The last supply and the last reserve of four, and the last status of six.
-    for (at, bytes) in [(13, [201, 0, 0]), (13, [0, 39, 17]), (16, [6, 2, 0])] {
-        edges.push(edge(3, with(&bare(4, 6), at, &bytes)));
-    }
-    edges.push(edge(3, with(&bare(4, 6), 22, &[2])));
+    // The last supply and the last reserve of four, the first status of six and the last.
+    let book = bare(4, 6);
+    edges.push(Edge::new(way, 3, with(&book, 13, &[201, 0, 0])));
+    edges.push(Edge::new(way, 3, with(&book, 13, &[0, 39, 17])));
+    edges.push(Edge::new(way, 3, with(&book, 17, &[2])));
+    edges.push(Edge::new(way, 3, with(&book, 22, &[2])));
     edges
 }
 
+/// The first bid of A's book stands at 12: its client, its hours at 13, its amount at 14.
 fn question_4() -> Vec<Edge> {
+    let way = "edge of 4";
     let book = book_a();
-    let edge = |number, bytes| Edge::new("edge of 4", number, bytes);
-    let mut edges = Vec::new();
-    for (client, number) in [(0, 4), (1, SOUND), (3, SOUND), (4, 4), (255, 4)] {
-        edges.push(edge(number, with(&book, 12, &[client])));
-    }
-    for (amount, number) in [(0, 4), (10, SOUND), (1_000_000, SOUND), (1_000_001, 4)] {
-        edges.push(edge(number, with(&book, 14, &u32::to_be_bytes(amount))));
-    }
-    for amount in [u32::MAX, 1 << 31, 1 << 24] {
-        edges.push(edge(4, with(&book, 14, &amount.to_be_bytes())));
-    }
-    // Hours: none, one, more than the supply.
-    for (hours, number) in [(0, 4), (1, SOUND), (3, SOUND), (6, SOUND), (7, 5)] {
-        edges.push(edge(number, with(&book, 13, &[hours])));
-    }
-    // A bid of a withdrawn client, and the last bid.
-    let withdrawn = with(&book, 8, &[1]);
-    edges.push(edge(4, with(&withdrawn, 14, &[255; 4])));
-    edges.push(edge(4, with(&withdrawn, 13, &[0])));
-    edges.push(edge(4, with(&book, 24, &[4])));
-    edges.push(edge(4, with(&book, 25, &[0])));
-    edges.push(edge(4, with(&book, 26, &[0; 4])));
-    // Amount 1, the least, with no reserve.
-    edges.push(edge(SOUND, with(&book_of(2, &[1]), 13, &[0, 0, 0, 1])));
-    edges.push(edge(4, with(&book_of(2, &[1]), 13, &[0, 0, 0, 0])));
+    let clients = [(0, 4), (1, SOUND), (3, SOUND), (4, 4), (255, 4)];
+    let amounts = [(0, 4), (10, SOUND), (1_000_000, SOUND), (1_000_001, 4)];
+    let large = [(u32::MAX, 4), (1 << 31, 4), (1 << 24, 4)];
+    // Hours: none, one, more than the supply, as many as the amount pays for, and one more.
+    let hours = [(0, 4), (1, SOUND), (3, SOUND), (6, SOUND), (7, 5)];
+    let amount = |amount: u32| with(&book, 14, &amount.to_be_bytes());
+    let mut edges = each(way, &clients, |client| with(&book, 12, &[client]));
+    edges.extend(each(way, &amounts, amount));
+    edges.extend(each(way, &large, amount));
+    edges.extend(each(way, &hours, |hours| with(&book, 13, &[hours])));
     edges
+}
+
+/// A bid of a withdrawn client, the last bid, and amount 1, the least, with no reserve.
+fn other_bids() -> Vec<Edge> {
+    let edge = |number, bytes| Edge::new("edge of 4", number, bytes);
+    let book = book_a();
+    let withdrawn = with(&book, 8, &[1]);
+    vec![
+        edge(4, with(&withdrawn, 14, &[255; 4])),
+        edge(4, with(&withdrawn, 13, &[0])),
+        edge(4, with(&book, 24, &[4])),
+        edge(4, with(&book, 25, &[0])),
+        edge(4, with(&book, 26, &[0; 4])),
+        edge(SOUND, with(&book_of(2, &[1]), 13, &[0, 0, 0, 1])),
+        edge(4, with(&book_of(2, &[1]), 13, &[0, 0, 0, 0])),
+    ]
 }
 
 /// Eight bids of a client and nine, standing or withdrawn.

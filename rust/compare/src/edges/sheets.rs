@@ -1,7 +1,7 @@
 //! Edges of questions 6 to 8, on the book and the sheet of call A, and the seven lengths.
 
 use super::books::book_of;
-use super::{with, Edge};
+use super::{each, with, Edge};
 use generate::by_hand::{book_a, book_i, sheet_a, sheet_i, x, S, W};
 
 pub fn edges() -> Vec<Edge> {
@@ -75,37 +75,22 @@ fn seven_lengths() -> Vec<Edge> {
 
 /// q, s and G, where there is no winner.
 fn ranges_without_winners() -> Vec<Edge> {
-    let edge = |number, sheet: S| Edge::new("edge of 7", number, sheet.after(&book_i()));
-    let mut edges = Vec::new();
-    for (value, number) in [(0, 7), (1, 0), (10_000, 0), (10_001, 7), (u32::MAX, 7)] {
-        edges.push(edge(
-            number,
-            S {
-                q: value,
-                ..sheet_i()
-            },
-        ));
-        edges.push(edge(
-            number,
-            S {
-                s: value,
-                ..sheet_i()
-            },
-        ));
-    }
+    let way = "edge of 7";
+    let small = [(0, 7), (1, 0), (10_000, 0), (10_001, 7), (u32::MAX, 7)];
     let large = 1_000_000_000_000;
-    for (g, number) in [
-        (large, 0),
+    let in_range = [(large, 0), (-large, 0), (-1, 0)];
+    let past = [
         (large + 1, 7),
-        (-large, 0),
         (-large - 1, 7),
-        (-1, 0),
-    ] {
-        edges.push(edge(number, S { g, ..sheet_i() }));
-    }
-    for g in [i64::MIN, i64::MAX] {
-        edges.push(edge(7, S { g, ..sheet_i() }));
-    }
+        (i64::MIN, 7),
+        (i64::MAX, 7),
+    ];
+    let over_i = |sheet: S| sheet.after(&book_i());
+    let of_g = |g| over_i(S { g, ..sheet_i() });
+    let mut edges = each(way, &small, |q| over_i(S { q, ..sheet_i() }));
+    edges.extend(each(way, &small, |s| over_i(S { s, ..sheet_i() })));
+    edges.extend(each(way, &in_range, of_g));
+    edges.extend(each(way, &past, of_g));
     edges
 }
 
