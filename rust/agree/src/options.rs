@@ -4,13 +4,13 @@ pub const HELP: &str = "\
 agree [rounds] [seed] [options]
 
 Puts inputs to the proved library and to the reference, and fails at the first answer that differs,
-or if a number from 0 to 16 was not reached. First come the fixed cases: every edge of the format,
-the worked calls, no input, a megabyte. Then as many rounds of small books, each with all that comes
-from an acceptable call over it, and full books.
+if a number from 0 to 16 was not reached, or if no accepted call has a certain K, n or w. First come
+the fixed cases: every edge of the format, the worked calls, no input, a megabyte. Then as many rounds
+of small books, each with all that comes from an acceptable call over it, and full books.
 
-  rounds           small books, 150 unless said otherwise
+  rounds           small books, 250 unless said otherwise
   seed             1 unless said otherwise
-  --full N         N full books of each of the seven kinds, with 64 values and some calls each; 3
+  --full N         N full books of each of the seven kinds, with 64 values and some calls each; 4
   --program PATH   puts calls through this program too: all fixed cases, and of the others
   --every K        every K-th; 100 unless said otherwise
   --by-way         also prints how often each number was reached by each way of making an input
@@ -30,9 +30,9 @@ pub struct Options {
 impl Options {
     pub fn read(mut words: impl Iterator<Item = String>) -> Result<Options, String> {
         let mut options = Options {
-            rounds: 150,
+            rounds: 250,
             seed: 1,
-            full: 3,
+            full: 4,
             program: None,
             every: 100,
             by_way: false,
