@@ -34,10 +34,8 @@ fn main() {
 fn copy(source: &Path, to: &Path, name: &str, file: &str, fault: &table::Fault) -> String {
     fs::create_dir_all(to).expect("the build's directory can be written");
     let first = FILES.iter().position(|&other| other == file).expect("a file of the reference");
-    let mut module = String::new();
-    for other in &FILES[..first] {
-        module += &format!("    pub use reference::{other};\n");
-    }
+    let kept = FILES[..first].iter().map(|other| format!("    pub use reference::{other};\n"));
+    let mut module: String = kept.collect();
     for other in &FILES[first..] {
         let text = fs::read_to_string(source.join(format!("{other}.rs"))).expect("the reference can be read");
         let text = if *other == file { with_fault(&text, fault) } else { text };

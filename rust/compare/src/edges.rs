@@ -51,6 +51,10 @@ pub fn put(examiner: &mut dyn Examiner) -> Result<(), String> {
         let number = examiner.call_and_print(&edge.input)?;
         expect(edge.input.way, place, &edge.number, &number)?;
     }
+    put_values(examiner)
+}
+
+fn put_values(examiner: &mut dyn Examiner) -> Result<(), String> {
     for (place, value) in discards::values().iter().enumerate() {
         let answer = examiner.value("edge of 16", &value.book, value.discard)?;
         expect("edge of 16", place, &value.answer, &answer)?;

@@ -115,17 +115,21 @@ fn each_winner_and_each_set_decides_some_input() {
         let example = Example::of(&mut rng, book);
         reached.note_example(&mut rng, &example);
     }
-    for ((question, w), counts) in &reached.0 {
-        println!("{question} w {w}: {counts:?}");
-        let by_set = counts.len() == 1 << w;
-        let missing: Vec<usize> = (usize::from(by_set)..counts.len())
-            .filter(|&part| counts[part] == 0)
-            .collect();
-        // With six winners no client is left over, so that no discounts can exceed σ of them all.
-        let expected = match (*question, *w) {
-            ("11", 6) => vec![63],
-            _ => vec![],
-        };
-        assert_eq!(missing, expected, "question {question}, w {w}");
+    for (&(question, w), counts) in &reached.0 {
+        assert_all_decide(question, w, counts);
     }
+}
+
+fn assert_all_decide(question: &str, w: usize, counts: &[u64]) {
+    println!("{question} w {w}: {counts:?}");
+    let by_set = counts.len() == 1 << w;
+    let missing: Vec<usize> = (usize::from(by_set)..counts.len())
+        .filter(|&part| counts[part] == 0)
+        .collect();
+    // With six winners no client is left over, so that no discounts can exceed σ of them all.
+    let expected = match (question, w) {
+        ("11", 6) => vec![63],
+        _ => vec![],
+    };
+    assert_eq!(missing, expected, "question {question}, w {w}");
 }

@@ -76,9 +76,7 @@ impl Kind {
 
 /// The same book with reserves, some clients withdrawn and some bids made equal to others.
 pub fn varied(rng: &mut Rng, mut book: Book) -> Book {
-    for status in &mut book.status {
-        *status = i128::from(rng.chance(20));
-    }
+    book.status.fill_with(|| i128::from(rng.chance(20)));
     for place in 6..book.bids.len() {
         if rng.chance(10) {
             book.bids[place] = book.bids[place - 6].clone();

@@ -13,18 +13,16 @@ use reference::{admissible, Discounts, Sheet};
 #[test]
 fn own_discounts_are_admissible() {
     let mut rng = Rng::new(21);
-    for _ in 0..4_000 {
-        let pricing = Pricing::of(&Example::small(&mut rng));
-        assert!(pricing.admits(&pricing.x), "{:?}", pricing.book);
-    }
-    for _ in 0..60 {
-        let pricing = Pricing::of(&Example::any(&mut rng));
-        assert!(pricing.admits(&pricing.x), "{:?}", pricing.book);
-    }
+    (0..4_000).for_each(|_| assert_admissible(&Example::small(&mut rng)));
+    (0..60).for_each(|_| assert_admissible(&Example::any(&mut rng)));
     for kind in &KINDS {
-        let pricing = Pricing::of(&Example::of(&mut rng, kind.book(21)));
-        assert!(pricing.admits(&pricing.x), "{}", kind.name);
+        assert_admissible(&Example::of(&mut rng, kind.book(21)));
     }
+}
+
+fn assert_admissible(example: &Example) {
+    let pricing = Pricing::of(example);
+    assert!(pricing.admits(&pricing.x), "{:?}", pricing.book);
 }
 
 /// Discounts within the reserves, near σ of some set: its sum is σ, one less or one more, as far as
