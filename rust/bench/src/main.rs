@@ -35,7 +35,7 @@ fn main() {
     println!("all 64 greatest values of a full book: our time over that in Rust of the plain recursion, of the same search and");
     println!("of a branch and bound. Ours judges the book at each call and the others do not: `judging` is the part of our time");
     println!("that 64 calls refused at the last question take, and `no judging` our time over the same search without it");
-    println!("{:22}{:>10}{:>10}{:>10}{:>12}{:>10}", "kind of book", "plain", "search", "branch", "no judging", "judging");
+    println!("{:22}{:>10}{:>10}{:>10}{:>12}{:>10}", "nature", "plain", "search", "branch", "no judging", "judging");
     for (name, book) in books::of_each_kind(1) {
         let ours = || all_sets(|d| u64::from(certifier::greatest_value(black_box(&book), d).value));
         let judging = || all_sets(|_| u64::from(certifier::greatest_value(black_box(&book), 64).number));
