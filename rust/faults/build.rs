@@ -18,6 +18,7 @@ fn main() {
     println!("cargo:rerun-if-changed=src/table");
     let all = env::var("FAULTS").is_ok_and(|which| which == "all");
     let faults = table::faults(all);
+    (1..=16).for_each(|question| assert_has_fault(&faults, question));
     let mut code = String::new();
     let mut list = String::new();
     for (number, (group, fault)) in faults.iter().enumerate() {
@@ -28,6 +29,13 @@ fn main() {
     }
     code += &format!("pub const ALL: bool = {all};\npub const COPIES: &[Copied] = &[{list}];\n");
     fs::write(out.join("copies.rs"), code).expect("the build's directory can be written");
+}
+
+/// Each question has a fault of its own.
+fn assert_has_fault(faults: &[(&table::Group, &table::Fault)], question: usize) {
+    let topic = format!("question {question}");
+    let found = faults.iter().any(|(group, fault)| group.topic == topic && fault.same.is_none());
+    assert!(found, "no fault in {topic}");
 }
 
 /// Writes one copy, and gives the module that holds it.

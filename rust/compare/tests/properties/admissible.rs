@@ -58,6 +58,17 @@ struct Edges {
 }
 
 impl Edges {
+    /// Tries discounts near bounds for the winners of one example, if it has any.
+    fn try_some(&mut self, rng: &mut Rng, example: fn(&mut Rng) -> Example, count: usize) {
+        let example = example(rng);
+        let count = if example.sheet.w() > 0 { count } else { 0 };
+        for _ in 0..count {
+            let sheet = near_a_bound(rng, &example);
+            assert!(question_10(&sheet, &example.weights));
+            self.note(&example, &sheet);
+        }
+    }
+
     fn note(&mut self, example: &Example, sheet: &Sheet) {
         let yes = agrees(example, sheet);
         let over = |set: usize| sheet.x_sum(set) - sheet.q * example.weights.sigma[set];
@@ -71,17 +82,20 @@ impl Edges {
 fn question_11_agrees_with_every_combination_of_lowered_bids() {
     let mut rng = Rng::new(22);
     let mut edges = Edges::default();
-    for _ in 0..8_000 {
-        let example = Example::small(&mut rng);
-        let times = if example.sheet.w() > 0 { 10 } else { 0 };
-        for sheet in (0..times).map(|_| near_a_bound(&mut rng, &example)) {
-            assert!(question_10(&sheet, &example.weights));
-            edges.note(&example, &sheet);
-        }
-    }
+    (0..8_000).for_each(|_| edges.try_some(&mut rng, Example::small, 10));
     println!("{edges:?}");
     assert!((1..7).all(|w| edges.met[w] >= 500), "{edges:?}");
     assert!((1..7).all(|w| edges.one_over[w] >= 200), "{edges:?}");
+}
+
+#[test]
+fn question_11_agrees_over_larger_books() {
+    let mut rng = Rng::new(23);
+    let mut edges = Edges::default();
+    (0..400).for_each(|_| edges.try_some(&mut rng, Example::any, 4));
+    println!("{edges:?}");
+    assert!(edges.met.iter().sum::<u64>() >= 300, "{edges:?}");
+    assert!(edges.one_over.iter().sum::<u64>() >= 100, "{edges:?}");
 }
 
 /// Question 11's answer, which must be that of the definition.
