@@ -1,7 +1,7 @@
 //! Each field moved by one, and set to each end of its range and one past it.
 
-use crate::{Example, Input};
-use reference::{Book, Sheet};
+use crate::{Changes, Example, Input};
+use reference::Book;
 
 const LARGE: i128 = 1_000_000_000_000;
 
@@ -32,75 +32,84 @@ fn around_g(value: i128) -> Vec<i128> {
 
 /// Changes of the book, the sheet staying as it is.
 pub fn of_book(example: &Example) -> Vec<Input> {
-    let base = &example.book;
-    let mut inputs = Vec::new();
-    let mut add = |way, change: &dyn Fn(&mut Book)| {
-        let mut book = base.clone();
-        change(&mut book);
-        inputs.push(example.with_book(way, &book));
-    };
-    for kind in 0..base.supply.len() {
-        for new in around(base.supply[kind], 0, 200, 8) {
-            add("field supply", &|book| book.supply[kind] = new);
-        }
-        for new in around(base.reserve[kind], 0, 10_000, 16) {
-            add("field reserve", &|book| book.reserve[kind] = new);
-        }
-    }
-    for client in 0..base.status.len() {
-        for new in around(base.status[client], 0, 1, 8) {
-            add("field status", &|book| book.status[client] = new);
-        }
-    }
-    for place in 0..base.bids.len() {
-        let bid = &base.bids[place];
-        for new in around(bid.client as i128, 1, base.status.len() as i128, 8) {
-            add("field client", &|book| {
-                book.bids[place].client = new as usize
-            });
-        }
-        for kind in 0..bid.hours.len() {
-            for new in around(bid.hours[kind], 0, base.supply[kind], 8) {
-                add("field hours", &|book| book.bids[place].hours[kind] = new);
-            }
-        }
-        add("field hours none", &|book| book.bids[place].hours.fill(0));
-        for new in around(bid.amount, 1, 1_000_000, 32) {
-            add("field amount", &|book| book.bids[place].amount = new);
-        }
-        let reserves = base.reserves(bid);
-        for new in [reserves - 1, reserves, reserves + 1] {
-            add("field amount at reserve", &|book| {
-                book.bids[place].amount = new
-            });
-        }
-        add("bid left out", &|book| {
-            book.bids.remove(place);
+    let mut changes = Changes::of(example);
+    let book = &example.book;
+    (0..book.supply.len()).for_each(|kind| of_kind(&mut changes, kind));
+    (1..=book.status.len()).for_each(|client| of_client(&mut changes, client));
+    (0..book.bids.len()).for_each(|place| of_bid(&mut changes, place));
+    counts(&mut changes);
+    changes.inputs
+}
+
+fn of_kind(changes: &mut Changes, kind: usize) {
+    let base = &changes.example.book;
+    let supplies = around(base.supply[kind], 0, 200, 8);
+    changes.books("field supply", supplies, |book, new| {
+        book.supply[kind] = new
+    });
+    let reserves = around(base.reserve[kind], 0, 10_000, 16);
+    changes.books("field reserve", reserves, |book, new| {
+        book.reserve[kind] = new
+    });
+}
+
+fn of_client(changes: &mut Changes, client: usize) {
+    let at = client - 1;
+    let statuses = around(changes.example.book.status[at], 0, 1, 8);
+    changes.books("field status", statuses, |book, new| book.status[at] = new);
+    for count in [8, 9] {
+        changes.book("eight or nine bids", |book| {
+            with_bids_of(book, client, count)
         });
     }
-    for client in 1..=base.status.len() {
-        for count in [8, 9] {
-            add("eight or nine bids", &|book| {
-                with_bids_of(book, client, count)
-            });
-        }
+}
+
+fn of_bid(changes: &mut Changes, place: usize) {
+    let base = &changes.example.book;
+    let bid = &base.bids[place];
+    let clients = around(bid.client as i128, 1, base.status.len() as i128, 8);
+    changes.books("field client", clients, |book, new| {
+        book.bids[place].client = new as usize
+    });
+    let mut amounts = around(bid.amount, 1, 1_000_000, 32);
+    amounts.extend(base.reserves(bid) - 1..=base.reserves(bid) + 1);
+    changes.books("field amount", amounts, |book, new| {
+        book.bids[place].amount = new
+    });
+    for kind in 0..bid.hours.len() {
+        let hours = around(bid.hours[kind], 0, base.supply[kind], 8);
+        changes.books("field hours", hours, |book, new| {
+            book.bids[place].hours[kind] = new
+        });
     }
-    add("kind more", &|book| add_kind(book));
-    add("kind fewer", &|book| drop_kind(book));
-    add("five kinds", &|book| {
+    changes.book("field hours none", |book| book.bids[place].hours.fill(0));
+    changes.book("bid left out", |book| {
+        book.bids.remove(place);
+    });
+}
+
+/// K, n and m, with the lists that belong to them.
+fn counts(changes: &mut Changes) {
+    changes.book("kind more", add_kind);
+    changes.book("kind fewer", drop_kind);
+    changes.book("five kinds", |book| {
         while book.supply.len() < 5 {
             add_kind(book);
         }
     });
-    add("client more", &|book| book.status.push(0));
-    add("seven clients", &|book| book.status.resize(7, 0));
-    add("client fewer", &|book| {
+    changes.book("client more", |book| book.status.push(0));
+    changes.book("seven clients", |book| book.status.resize(7, 0));
+    changes.book("client fewer", |book| {
         book.status.pop();
     });
-    for m in [48, 49] {
-        add("48 or 49 bids", &|book| fill_up(book, m));
-    }
-    inputs
+    changes.book("49 bids", |book| fill_up(book, 49));
+}
+
+/// The book filled up to 48 bids, which takes the reference long.
+pub fn filled_up(example: &Example) -> Input {
+    let mut changes = Changes::of(example);
+    changes.book("48 bids", |book| fill_up(book, 48));
+    changes.inputs.remove(0)
 }
 
 /// Repeats a client's bid, or another's, until the client has this many.
@@ -149,46 +158,41 @@ fn drop_kind(book: &mut Book) {
 
 /// Changes of the sheet, the book staying as it is.
 pub fn of_sheet(example: &Example) -> Vec<Input> {
+    let mut changes = Changes::of(example);
     let base = &example.sheet;
-    let mut inputs = Vec::new();
-    let mut add = |way, change: &dyn Fn(&mut Sheet)| {
-        let mut sheet = base.clone();
-        change(&mut sheet);
-        inputs.push(example.with_sheet(way, &sheet));
-    };
-    for new in around(base.q, 1, 10_000, 32) {
-        add("field q", &|sheet| sheet.q = new);
-    }
-    for new in around(base.s, 1, 10_000, 32) {
-        add("field s", &|sheet| sheet.s = new);
-    }
-    for new in around_g(base.g) {
-        add("field G", &|sheet| sheet.g = new);
-    }
-    for (j, winner) in base.winners.iter().enumerate() {
-        for new in around(winner.x, 0, 10 * 1_000_000_000, 64) {
-            add("field X", &|sheet| sheet.winners[j].x = new);
-        }
-        for new in around(winner.x, 0, base.q * example.weights.rho[j], 64) {
-            add("field X at reserve", &|sheet| sheet.winners[j].x = new);
-        }
-        for new in around(winner.z, 0, 10_000, 32) {
-            add("field Z", &|sheet| sheet.winners[j].z = new);
-        }
-        for new in around(winner.r, 0, LARGE, 64) {
-            add("field R", &|sheet| sheet.winners[j].r = new);
-        }
-        for new in around(winner.t, 0, LARGE, 64) {
-            add("field T", &|sheet| sheet.winners[j].t = new);
-        }
-    }
-    for (set, multipliers) in base.sets.iter().enumerate().skip(1) {
-        for new in around(multipliers.y, 0, 10_000, 32) {
-            add("field Y", &|sheet| sheet.sets[set].y = new);
-        }
-        for new in around(multipliers.u, 0, LARGE, 64) {
-            add("field U", &|sheet| sheet.sets[set].u = new);
-        }
-    }
-    inputs
+    changes.sheets("field q", around(base.q, 1, 10_000, 32), |sheet, new| {
+        sheet.q = new
+    });
+    changes.sheets("field s", around(base.s, 1, 10_000, 32), |sheet, new| {
+        sheet.s = new
+    });
+    changes.sheets("field G", around_g(base.g), |sheet, new| sheet.g = new);
+    (0..base.w()).for_each(|j| of_winner(&mut changes, j));
+    base.set_numbers().for_each(|set| of_set(&mut changes, set));
+    changes.inputs
+}
+
+fn of_winner(changes: &mut Changes, j: usize) {
+    let winner = changes.example.sheet.winners[j];
+    let reserve = changes.example.sheet.q * changes.example.weights.rho[j];
+    let in_range = around(winner.x, 0, 10_000_000_000, 64);
+    changes.sheets("field X", in_range, |sheet, new| sheet.winners[j].x = new);
+    let at_reserve = around(winner.x, 0, reserve, 64);
+    changes.sheets("field X at reserve", at_reserve, |sheet, new| {
+        sheet.winners[j].x = new
+    });
+    let z = around(winner.z, 0, 10_000, 32);
+    changes.sheets("field Z", z, |sheet, new| sheet.winners[j].z = new);
+    let r = around(winner.r, 0, LARGE, 64);
+    changes.sheets("field R", r, |sheet, new| sheet.winners[j].r = new);
+    let t = around(winner.t, 0, LARGE, 64);
+    changes.sheets("field T", t, |sheet, new| sheet.winners[j].t = new);
+}
+
+fn of_set(changes: &mut Changes, set: usize) {
+    let multipliers = changes.example.sheet.sets[set];
+    let y = around(multipliers.y, 0, 10_000, 32);
+    changes.sheets("field Y", y, |sheet, new| sheet.sets[set].y = new);
+    let u = around(multipliers.u, 0, LARGE, 64);
+    changes.sheets("field U", u, |sheet, new| sheet.sets[set].u = new);
 }

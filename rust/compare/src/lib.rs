@@ -8,30 +8,48 @@
 //!   balances and break others
 //! - `winners`: winners reordered, repeated, left out, added and exchanged
 //! - `raw`: bytes flipped, cut, doubled, random or none
-//! - `tally`: how often each number was reached, and by which way of changing
-//! - `run`: all of it put to the reference and to another implementation
+//! - `rounds`: rounds of generated inputs, over small books and over full ones
+//!
+//! Beside them stand fixed inputs with their answers:
+//!
+//! - `edges`: every edge that docs/FORMAT.md names
+//! - `calls`: the worked calls
+//!
+//! And to put them:
+//!
+//! - `comparison`: one input put to the reference and to another implementation
+//! - `memory`: greatest values kept from one input to the next
+//! - `tally`, `shapes`: how often each number was reached, and by which way of changing; what the
+//!   accepted calls were like
 
 #![forbid(unsafe_code)]
 
+pub mod calls;
+pub mod comparison;
+pub mod edges;
 pub mod fields;
+pub mod memory;
 pub mod multipliers;
 pub mod raw;
-pub mod run;
+pub mod rounds;
+pub mod shapes;
 pub mod tally;
 pub mod winners;
 
-use generate::{
-    acceptable_sheet, dressed, random_book, small_book, winning_combinations, write, Rng,
-};
+use generate::{acceptable_sheet, dressed, random_book, small_book, weighed, write, Rng};
+use reference::combinations::Values;
 use reference::{Book, Sheet, Weights};
+use std::rc::Rc;
 
-pub use run::{against, Certifier};
-pub use tally::Tally;
+pub use comparison::{Certifier, Comparison, Examiner, Printer};
+pub use memory::Memory;
+pub use tally::{Counts, Tally};
 
 /// A sound book and a sheet that is accepted over it.
 #[derive(Clone, Debug)]
 pub struct Example {
     pub book: Book,
+    pub values: Rc<Values>,
     pub weights: Weights,
     pub sheet: Sheet,
 }
@@ -45,15 +63,17 @@ pub struct Input {
 
 impl Example {
     pub fn of(rng: &mut Rng, book: Book) -> Example {
-        let winners = rng.pick(&winning_combinations(&book)).clone();
-        let weights = Weights::of(&book, &winners);
-        let sheet = acceptable_sheet(rng, &weights, &winners);
+        let (values, winning) = weighed(&book);
+        let winners = rng.pick(&winning);
+        let weights = Weights::from_values(&book, &values, winners);
+        let sheet = acceptable_sheet(rng, &weights, winners);
         let sheet = match rng.chance(50) {
             true => dressed(rng, &weights, &sheet),
             false => sheet,
         };
         Example {
             book,
+            values: Rc::new(values),
             weights,
             sheet,
         }
@@ -74,23 +94,50 @@ impl Example {
     pub fn bytes(&self) -> Vec<u8> {
         write::input(&self.book, &self.sheet)
     }
+}
 
-    /// As many inputs at random out of all that come from the example, which is one of them.
-    pub fn some_inputs(&self, rng: &mut Rng, count: usize) -> Vec<Input> {
-        let mut all = inputs(rng, self);
-        rng.shuffle(&mut all[1..]);
-        all.truncate(count);
-        all
+/// Inputs that differ from an example, gathered one change at a time.
+pub struct Changes<'a> {
+    pub example: &'a Example,
+    pub inputs: Vec<Input>,
+}
+
+impl<'a> Changes<'a> {
+    pub fn of(example: &'a Example) -> Changes<'a> {
+        Changes {
+            example,
+            inputs: Vec::new(),
+        }
     }
 
-    fn with_book(&self, way: &'static str, book: &Book) -> Input {
-        let bytes = write::input(book, &self.sheet);
-        Input { way, bytes }
+    /// The example with its book changed.
+    pub fn book(&mut self, way: &'static str, change: impl Fn(&mut Book)) {
+        let mut book = self.example.book.clone();
+        change(&mut book);
+        let bytes = write::input(&book, &self.example.sheet);
+        self.inputs.push(Input { way, bytes });
     }
 
-    fn with_sheet(&self, way: &'static str, sheet: &Sheet) -> Input {
-        let bytes = write::input(&self.book, sheet);
-        Input { way, bytes }
+    /// The example with one field of its book set to each of these values.
+    pub fn books(&mut self, way: &'static str, values: Vec<i128>, set: impl Fn(&mut Book, i128)) {
+        for value in values {
+            self.book(way, |book| set(book, value));
+        }
+    }
+
+    /// The example with one field of its sheet set to each of these values.
+    pub fn sheets(&mut self, way: &'static str, values: Vec<i128>, set: impl Fn(&mut Sheet, i128)) {
+        for value in values {
+            self.sheet(way, |sheet| set(sheet, value));
+        }
+    }
+
+    /// The example with its sheet changed.
+    pub fn sheet(&mut self, way: &'static str, change: impl Fn(&mut Sheet)) {
+        let mut sheet = self.example.sheet.clone();
+        change(&mut sheet);
+        let bytes = write::input(&self.example.book, &sheet);
+        self.inputs.push(Input { way, bytes });
     }
 }
 
@@ -101,10 +148,21 @@ pub fn inputs(rng: &mut Rng, example: &Example) -> Vec<Input> {
         bytes: example.bytes(),
     };
     let mut inputs = vec![unchanged];
-    inputs.extend(fields::of_book(example));
-    inputs.extend(fields::of_sheet(example));
+    inputs.extend(book_inputs(example));
+    inputs.extend(sheet_inputs(rng, example));
+    inputs.extend(raw::changed(rng, &example.bytes()));
+    inputs
+}
+
+/// Those that differ in the book.
+pub fn book_inputs(example: &Example) -> Vec<Input> {
+    fields::of_book(example)
+}
+
+/// Those that differ in the sheet alone.
+pub fn sheet_inputs(rng: &mut Rng, example: &Example) -> Vec<Input> {
+    let mut inputs = fields::of_sheet(example);
     inputs.extend(multipliers::changed(rng, example));
     inputs.extend(winners::changed(rng, example));
-    inputs.extend(raw::changed(rng, &example.bytes()));
     inputs
 }

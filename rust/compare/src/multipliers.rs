@@ -1,6 +1,6 @@
 //! Discounts and multipliers changed so that some questions still say yes and others no.
 
-use crate::{Example, Input};
+use crate::{Changes, Example, Input};
 use generate::fraction::{common_multiple, Fraction};
 use generate::sheets::bounds;
 use generate::simplex::greatest_sum;
@@ -9,147 +9,173 @@ use reference::sheet::holds;
 use reference::Sheet;
 
 pub fn changed(rng: &mut Rng, example: &Example) -> Vec<Input> {
-    let base = &example.sheet;
-    let w = base.w();
-    let mut inputs = Vec::new();
-    let mut add = |way, change: &dyn Fn(&mut Sheet)| {
-        let mut sheet = base.clone();
-        change(&mut sheet);
-        inputs.push(example.with_sheet(way, &sheet));
-    };
-
-    // One winner's multipliers alone.
-    for j in 0..w {
-        let d = rng.range(1, 9);
-        add("R and T of one", &|sheet| {
-            sheet.winners[j].r += d;
-            sheet.winners[j].t += d;
-        });
-        add("Z of one to s", &|sheet| sheet.winners[j].z = sheet.s);
-        add("no Z of one", &|sheet| sheet.winners[j].z = 0);
-        add("no R of one", &|sheet| sheet.winners[j].r = 0);
-        add("no T of one", &|sheet| sheet.winners[j].t = 0);
-        add("balance of one broken", &|sheet| {
-            sheet.g -= d;
-            for k in (0..w).filter(|&k| k != j) {
-                raise(sheet, k, d);
-            }
-        });
-        add("X of one, balance kept", &|sheet| {
-            sheet.winners[j].x += 1;
-            raise(sheet, j, -1);
-        });
+    let mut changes = Changes::of(example);
+    (0..example.sheet.w()).for_each(|j| of_one_winner(&mut changes, rng, j));
+    for set in example.sheet.set_numbers() {
+        of_one_set(&mut changes, rng, set);
+        up_to_sigma(&mut changes, set);
     }
+    moved(&mut changes);
+    all_at_once(&mut changes);
+    sets_broken(&mut changes);
+    changes.inputs
+}
 
-    // One set's multipliers alone.
-    for set in 1..base.sets.len() {
-        let d = rng.range(1, 9);
-        add("no Y of one set", &|sheet| sheet.sets[set].y = 0);
-        add("no U of one set", &|sheet| sheet.sets[set].u = 0);
-        add("Y of one set to s", &|sheet| sheet.sets[set].y = sheet.s);
-        // Question 14 holds still; 15 does if the set, and the bounds made use of, are met.
-        add("U of one set, members lowered", &|sheet| {
-            sheet.sets[set].u += d;
-            for k in (0..w).filter(|&k| holds(set, k)) {
-                lower_if_it_may(sheet, k, d);
-            }
-        });
-        add("U of one set, others raised", &|sheet| {
-            sheet.sets[set].u += d;
-            sheet.g -= d;
-            for k in (0..w).filter(|&k| !holds(set, k)) {
-                raise_if_it_may(sheet, example, k, d);
-            }
-        });
-        add("U of one set as singles", &|sheet| {
-            let u = std::mem::take(&mut sheet.sets[set].u) + d;
-            sheet.sets[set].u = 0;
-            sheet.g -= d;
-            for k in 0..w {
-                sheet.sets[1 << k].u += if holds(set, k) { u } else { d };
-            }
-        });
-        // Up to σ of the set and one past it, other discounts staying as they are.
-        for past in [0, 1] {
-            let room = base.q * example.weights.sigma[set] - base.x_sum(set) + past;
-            for k in (0..w).filter(|&k| holds(set, k)) {
-                add("X of one up to a set's σ", &|sheet| {
-                    sheet.winners[k].x += room
-                });
-                add("X up to a set's σ, balanced", &|sheet| {
-                    sheet.winners[k].x += room;
-                    raise(sheet, k, -room);
-                });
-            }
-        }
-        // Only this set filled, others emptied: other sets and the sums may hold or not.
-        for past in [0, 1] {
-            add("X of one set alone", &|sheet| {
-                fill_set(sheet, example, set, past);
-            });
-        }
+/// The example itself, and those of the inputs that turn on one set.
+pub fn about_sets(rng: &mut Rng, example: &Example) -> Vec<Input> {
+    let mut changes = Changes::of(example);
+    changes.sheet("unchanged", |_| ());
+    for set in example.sheet.set_numbers() {
+        of_one_set(&mut changes, rng, set);
     }
+    sets_broken(&mut changes);
+    changes.inputs
+}
 
-    // Discounts moved between two winners, the sum staying the same.
-    for from in 0..w {
-        for to in (0..w).filter(|&to| to != from) {
-            for moved in [1, base.winners[from].x / 2, base.winners[from].x] {
-                if moved <= base.winners[from].x {
-                    add("X moved", &|sheet| {
-                        sheet.winners[from].x -= moved;
-                        sheet.winners[to].x += moved;
-                    });
-                    add("X moved, balanced", &|sheet| {
-                        sheet.winners[from].x -= moved;
-                        sheet.winners[to].x += moved;
-                        raise(sheet, from, moved);
-                        raise(sheet, to, -moved);
-                    });
-                }
-            }
-            add("X exchanged", &|sheet| {
-                let x = sheet.winners[from].x;
-                sheet.winners[from].x = sheet.winners[to].x;
-                sheet.winners[to].x = x;
-            });
-        }
-    }
-
-    // All at once.
-    add("no discounts", &|sheet| {
-        for winner in &mut sheet.winners {
-            winner.x = 0;
+/// One winner's multipliers alone.
+fn of_one_winner(changes: &mut Changes, rng: &mut Rng, j: usize) {
+    let d = rng.range(1, 9);
+    let w = changes.example.sheet.w();
+    changes.sheet("R and T of one", |sheet| {
+        sheet.winners[j].r += d;
+        sheet.winners[j].t += d;
+    });
+    changes.sheet("Z of one to s", |sheet| sheet.winners[j].z = sheet.s);
+    changes.sheet("no Z of one", |sheet| sheet.winners[j].z = 0);
+    changes.sheet("no R of one", |sheet| sheet.winners[j].r = 0);
+    changes.sheet("no T of one", |sheet| sheet.winners[j].t = 0);
+    changes.sheet("balance of one broken", |sheet| {
+        sheet.g -= d;
+        for k in (0..w).filter(|&k| k != j) {
+            raise(sheet, k, d);
         }
     });
-    add("no multipliers", &|sheet| {
-        let plain = Sheet {
-            g: 0,
-            sets: vec![Default::default(); sheet.sets.len()],
-            ..sheet.clone()
-        };
-        *sheet = plain;
+    changes.sheet("X of one, balance kept", |sheet| {
+        sheet.winners[j].x += 1;
+        raise(sheet, j, -1);
+    });
+}
+
+/// One set's multipliers alone. Where U is added, question 14 holds still, and 15 does if the set,
+/// and the bounds made use of, are met.
+fn of_one_set(changes: &mut Changes, rng: &mut Rng, set: usize) {
+    let d = rng.range(1, 9);
+    let example = changes.example;
+    let w = example.sheet.w();
+    changes.sheet("no Y of one set", |sheet| sheet.sets[set].y = 0);
+    changes.sheet("no U of one set", |sheet| sheet.sets[set].u = 0);
+    changes.sheet("Y of one set to s", |sheet| sheet.sets[set].y = sheet.s);
+    changes.sheet("U of one set, members lowered", |sheet| {
+        sheet.sets[set].u += d;
+        for k in (0..w).filter(|&k| holds(set, k)) {
+            lower_if_it_may(sheet, k, d);
+        }
+    });
+    changes.sheet("U of one set, others raised", |sheet| {
+        sheet.sets[set].u += d;
+        sheet.g -= d;
+        for k in (0..w).filter(|&k| !holds(set, k)) {
+            raise_if_it_may(sheet, example, k, d);
+        }
+    });
+    changes.sheet("U of one set as singles", |sheet| {
+        let u = std::mem::take(&mut sheet.sets[set].u) + d;
+        sheet.g -= d;
+        for k in 0..w {
+            sheet.sets[1 << k].u += if holds(set, k) { u } else { d };
+        }
+    });
+}
+
+/// Discounts up to σ of a set and one past it: one member's raised, or only this set's filled.
+fn up_to_sigma(changes: &mut Changes, set: usize) {
+    let example = changes.example;
+    let base = &example.sheet;
+    let room = base.q * example.weights.sigma[set] - base.x_sum(set);
+    changes.sheets("X of one set alone", vec![0, 1], |sheet, past| {
+        fill_set(sheet, example, set, past);
+    });
+    for k in (0..base.w()).filter(|&k| holds(set, k)) {
+        one_raised(changes, k, room);
+        one_raised(changes, k, room + 1);
+    }
+}
+
+fn one_raised(changes: &mut Changes, k: usize, by: i128) {
+    changes.sheet("X of one up to a set's σ", |sheet| {
+        sheet.winners[k].x += by
+    });
+    changes.sheet("X up to a set's σ, balanced", |sheet| {
+        sheet.winners[k].x += by;
+        raise(sheet, k, -by);
+    });
+}
+
+/// Discounts moved between two winners, the sum staying the same.
+fn moved(changes: &mut Changes) {
+    let w = changes.example.sheet.w();
+    for pair in 0..w * w {
+        let (from, to) = (pair / w, pair % w);
+        if from != to {
+            moved_between(changes, from, to);
+        }
+    }
+}
+
+fn moved_between(changes: &mut Changes, from: usize, to: usize) {
+    let x = changes.example.sheet.winners[from].x;
+    for moved in [1, x / 2, x].into_iter().filter(|&moved| moved <= x) {
+        changes.sheet("X moved", |sheet| {
+            sheet.winners[from].x -= moved;
+            sheet.winners[to].x += moved;
+        });
+        changes.sheet("X moved, balanced", |sheet| {
+            sheet.winners[from].x -= moved;
+            sheet.winners[to].x += moved;
+            raise(sheet, from, moved);
+            raise(sheet, to, -moved);
+        });
+    }
+    changes.sheet("X exchanged", |sheet| {
+        let x = sheet.winners[from].x;
+        sheet.winners[from].x = sheet.winners[to].x;
+        sheet.winners[to].x = x;
+    });
+}
+
+fn all_at_once(changes: &mut Changes) {
+    let example = changes.example;
+    changes.sheet("no discounts", |sheet| {
+        sheet.winners.iter_mut().for_each(|winner| winner.x = 0);
+    });
+    changes.sheet("no multipliers", |sheet| {
+        sheet.g = 0;
+        sheet.sets.fill(Default::default());
         for winner in &mut sheet.winners {
             (winner.z, winner.r, winner.t) = (0, 0, 0);
         }
     });
-    add("q doubled, rest kept", &|sheet| sheet.q *= 2);
-    add("s doubled, rest kept", &|sheet| sheet.s *= 2);
-    add("sets in reverse", &|sheet| sheet.sets[1..].reverse());
-    add("greatest numbers", &|sheet| {
+    changes.sheet("q doubled, rest kept", |sheet| sheet.q *= 2);
+    changes.sheet("s doubled, rest kept", |sheet| sheet.s *= 2);
+    changes.sheet("sets in reverse", |sheet| sheet.sets[1..].reverse());
+    changes.sheet("greatest numbers", |sheet| {
         (sheet.q, sheet.s) = (10_000, 10_000);
-        for winner in &mut sheet.winners {
-            winner.z = 10_000;
-        }
+        sheet
+            .winners
+            .iter_mut()
+            .for_each(|winner| winner.z = 10_000);
         for set in &mut sheet.sets[1..] {
             (set.y, set.u) = (10_000, 1_000_000_000_000);
         }
     });
     // Distances from the capped maximum: equal steps down from the lesser of ρ and σ.
-    add("capped maximum", &|sheet| capped(sheet, example));
-    for sheet in one_set_broken(example) {
-        inputs.push(example.with_sheet("σ of one set broken", &sheet));
+    changes.sheet("capped maximum", |sheet| capped(sheet, example));
+}
+
+fn sets_broken(changes: &mut Changes) {
+    for broken in one_set_broken(changes.example) {
+        changes.sheet("σ of one set broken", |sheet| *sheet = broken.clone());
     }
-    inputs
 }
 
 /// Raises the right side of a winner's balance by `by` with R, or lowers it with T.
@@ -212,23 +238,26 @@ pub fn one_set_broken(example: &Example) -> Vec<Sheet> {
 /// Gives the members of a set its whole σ and `past`, as evenly as whole numbers allow, and the
 /// others nothing; the balances of question 14 are made up with R and T.
 fn fill_set(sheet: &mut Sheet, example: &Example, set: usize, past: i128) {
-    let members: Vec<usize> = (0..sheet.w()).filter(|&k| holds(set, k)).collect();
+    let mut members = set.count_ones();
     let mut left = sheet.q * example.weights.sigma[set] + past;
-    for winner in &mut sheet.winners {
+    for (k, winner) in sheet.winners.iter_mut().enumerate() {
         winner.x = 0;
+        if holds(set, k) {
+            let even = left / i128::from(members);
+            winner.x = even.min(sheet.q * example.weights.rho[k]);
+            left -= winner.x;
+            members -= 1;
+        }
     }
-    for (i, &k) in members.iter().enumerate() {
-        let even = left / (members.len() - i) as i128;
-        let x = even.min(sheet.q * example.weights.rho[k]);
-        sheet.winners[k].x = x;
-        left -= x;
-    }
-    for k in 0..sheet.w() {
-        let wanted = sheet.q * example.weights.sigma_of_one(k) - sheet.winners[k].x;
-        let there = sheet.g + sheet.sum_over_sets_holding(k, |set| set.u);
-        (sheet.winners[k].r, sheet.winners[k].t) = (0, 0);
-        raise(sheet, k, wanted - there);
-    }
+    (0..sheet.w()).for_each(|k| balance(sheet, example, k));
+}
+
+/// Makes up a winner's balance with R or T.
+fn balance(sheet: &mut Sheet, example: &Example, k: usize) {
+    let wanted = sheet.q * example.weights.sigma_of_one(k) - sheet.winners[k].x;
+    let there = sheet.g + sheet.sum_over_sets_holding(k, |set| set.u);
+    (sheet.winners[k].r, sheet.winners[k].t) = (0, 0);
+    raise(sheet, k, wanted - there);
 }
 
 /// The same sum, spread as if the distances were taken from the lesser of ρ(j) and σ(j).

@@ -2,7 +2,9 @@
 //!
 //! - `rng`: a seeded generator of numbers
 //! - `write`: books and sheets as bytes
+//! - `by_hand`: the book and the sheet of worked calls, and a writer of others like them
 //! - `books`, `planted`: random sound books
+//! - `full`: full books of seven kinds
 //! - `fraction`, `simplex`, `nearest`: exact arithmetic, the greatest sum of discounts with its
 //!   multipliers, and the discounts nearest to the σ(j) with theirs
 //! - `sheets`: acceptable sheets
@@ -10,7 +12,9 @@
 #![forbid(unsafe_code)]
 
 pub mod books;
+pub mod by_hand;
 pub mod fraction;
+pub mod full;
 pub mod nearest;
 pub mod planted;
 pub mod rng;
@@ -20,4 +24,4 @@ pub mod write;
 
 pub use books::{random_book, small_book};
 pub use rng::Rng;
-pub use sheets::{acceptable_sheet, dressed, winning_combinations};
+pub use sheets::{acceptable_sheet, dressed, weighed, winning_combinations};

@@ -25,9 +25,7 @@ pub fn planted_book(rng: &mut Rng, most_challenges: usize) -> Book {
         })
         .collect();
     let mut book = Book {
-        supply: (0..k)
-            .map(|kind| planted.iter().map(|bid| bid.hours[kind]).sum())
-            .collect(),
+        supply: hours_of(&planted, k),
         reserve: vec![0; k],
         status: vec![0; n],
         bids: planted.clone(),
@@ -47,6 +45,47 @@ pub fn planted_book(rng: &mut Rng, most_challenges: usize) -> Book {
         rng.shuffle(&mut book.bids);
     }
     book
+}
+
+/// Six planted winners, and one bid besides: a winner outside the set, which has one to five of
+/// them, asks for the hours of the set beside its own, at a little less than the set's amounts and
+/// its own. So σ of this set stands out from what σ of the others would let through.
+pub fn challenged_book(rng: &mut Rng, set: usize) -> Book {
+    let k = rng.index(1, 4);
+    let most_amount = *rng.pick(&[6, 30, 1_000, 150_000]);
+    let mut bids: Vec<Bid> = (1..=6)
+        .map(|client| Bid {
+            client,
+            hours: some_hours(rng, k),
+            amount: planted_amount(rng, most_amount),
+        })
+        .collect();
+    let supply = hours_of(&bids, k);
+    let outside: Vec<usize> = (0..6).filter(|place| (set >> place) & 1 == 0).collect();
+    let challenger = *rng.pick(&outside);
+    let beaten: Vec<Bid> = (0..6)
+        .filter(|place| (set >> place) & 1 == 1 || *place == challenger)
+        .map(|place| bids[place].clone())
+        .collect();
+    let total: i128 = beaten.iter().map(|bid| bid.amount).sum();
+    bids.push(Bid {
+        client: challenger + 1,
+        hours: hours_of(&beaten, k),
+        amount: (total - rng.range(0, total / 3)).max(1),
+    });
+    Book {
+        supply,
+        reserve: vec![0; k],
+        status: vec![0; 6],
+        bids,
+    }
+}
+
+/// The hours of these bids together, by kind.
+fn hours_of(bids: &[Bid], k: usize) -> Vec<i128> {
+    (0..k)
+        .map(|kind| bids.iter().map(|bid| bid.hours[kind]).sum())
+        .collect()
 }
 
 fn some_hours(rng: &mut Rng, k: usize) -> Vec<i128> {
@@ -77,7 +116,8 @@ fn challenge(rng: &mut Rng, planted: &[Bid], client: usize) -> Bid {
     if beaten.is_empty() {
         beaten.push(rng.pick(planted));
     }
-    let hours = (0..planted[0].hours.len())
+    let kinds = 0..planted[0].hours.len();
+    let hours = kinds
         .map(|kind| beaten.iter().map(|bid| bid.hours[kind]).sum())
         .collect();
     let total: i128 = beaten.iter().map(|bid| bid.amount).sum();
@@ -90,7 +130,7 @@ fn challenge(rng: &mut Rng, planted: &[Bid], client: usize) -> Bid {
 }
 
 /// Reserves that some bid meets exactly, or almost.
-fn set_reserves(rng: &mut Rng, book: &mut Book) {
+pub fn set_reserves(rng: &mut Rng, book: &mut Book) {
     for _ in 0..20 {
         let reserve: Vec<i128> = book.supply.iter().map(|_| rng.range(0, 10_000)).collect();
         let scale = rng.range(1, 10_000);

@@ -5,16 +5,23 @@ use crate::fraction::{common_multiple, Fraction, ZERO};
 use crate::nearest::{nearest, Limit, Nearest};
 use crate::simplex::{greatest_sum, Bound};
 use crate::Rng;
-use reference::combinations::{each_combination, value};
+use reference::combinations::{each_combination, value, Values};
 use reference::sheet::{holds, Multipliers, Sheet, Winner};
 use reference::weights::Weights;
 use reference::Book;
 
 /// The combinations of greatest value, as lists of bid numbers by rising client.
 pub fn winning_combinations(book: &Book) -> Vec<Vec<usize>> {
+    weighed(book).1
+}
+
+/// The greatest values of a book and its winning combinations, from one listing.
+pub fn weighed(book: &Book) -> (Values, Vec<Vec<usize>>) {
+    let mut values = Values::before_any(book);
     let mut greatest = 0;
     let mut lists = Vec::new();
     each_combination(book, |list| {
+        values.note(book, list);
         let value = value(book, list);
         if value > greatest {
             greatest = value;
@@ -24,7 +31,7 @@ pub fn winning_combinations(book: &Book) -> Vec<Vec<usize>> {
             lists.push(list.to_vec());
         }
     });
-    lists
+    (values, lists)
 }
 
 /// A sheet for winners of greatest value. Its discounts are the only ones; its multipliers, where

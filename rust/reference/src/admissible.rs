@@ -4,14 +4,15 @@ use crate::book::Book;
 use crate::combinations::each_combination;
 
 /// Discounts x / q, one for each winner in the order of `winners`, all over one denominator q.
+/// Neither is held to what a sheet can say.
 pub struct Discounts<'a> {
-    pub q: u32,
-    pub x: &'a [i64],
+    pub q: i128,
+    pub x: &'a [i128],
 }
 
 /// Whether the discounts are admissible for these winners, a combination given as bid numbers. Each
 /// lies between 0 and its ρ(j), and once all bids are lowered no other combination beats the
-/// winners'. With a q of 0 they are not.
+/// winners'. With a q of 0 or below they are not.
 pub fn admissible(book: &Book, winners: &[usize], discounts: &Discounts) -> bool {
     discounts.q > 0
         && discounts.x.len() == winners.len()
@@ -22,9 +23,8 @@ pub fn admissible(book: &Book, winners: &[usize], discounts: &Discounts) -> bool
 
 fn none_below_reserve(book: &Book, winners: &[usize], discounts: &Discounts) -> bool {
     winners.iter().zip(discounts.x).all(|(&b, &x)| {
-        book.bid(b).is_some_and(|bid| {
-            i128::from(x) <= i128::from(discounts.q) * (bid.amount - book.reserves(bid))
-        })
+        book.bid(b)
+            .is_some_and(|bid| x <= discounts.q * (bid.amount - book.reserves(bid)))
     })
 }
 
@@ -45,9 +45,9 @@ pub fn none_worth_more(book: &Book, winners: &[usize], discounts: &Discounts) ->
 fn lowered_bid(book: &Book, winners: &[usize], discounts: &Discounts, b: usize) -> i128 {
     let Some(bid) = book.bid(b) else { return 0 };
     let of_same_client = |&won: &usize| book.bid(won).is_some_and(|w| w.client == bid.client);
-    let full = i128::from(discounts.q) * bid.amount;
+    let full = discounts.q * bid.amount;
     match winners.iter().position(of_same_client) {
-        Some(j) => (full - discounts.x.get(j).map_or(0, |&x| i128::from(x))).max(0),
+        Some(j) => (full - discounts.x.get(j).unwrap_or(&0)).max(0),
         None => full,
     }
 }

@@ -5,6 +5,7 @@ use crate::combinations::Values;
 use crate::questions::*;
 use crate::sheet::Sheet;
 use crate::weights::Weights;
+use std::borrow::Borrow;
 
 /// The answer to an input. All fields but the number are 0 in a refusal.
 #[derive(Clone, Copy, Debug, Default, PartialEq, Eq)]
@@ -15,12 +16,21 @@ pub struct Answer {
     pub prices: [u64; 6],
 }
 
+/// What questions 1 to 15 come to: the book and the sheet of an accepted input, or the number of the
+/// first question that is answered no.
+pub type Outcome = Result<(Book, Sheet), u8>;
+
 /// Questions 1 to 15 over a book and the sheet after it.
 pub fn judge(input: &[u8]) -> Answer {
-    match accepted(input) {
+    answer(&outcome(input, Values::of))
+}
+
+/// The answer to an input of this outcome.
+pub fn answer(outcome: &Outcome) -> Answer {
+    match outcome {
         Ok((book, sheet)) => {
             let mut prices = [0; 6];
-            for (place, price) in prices.iter_mut().zip(price_numerators(&book, &sheet)) {
+            for (place, price) in prices.iter_mut().zip(price_numerators(book, sheet)) {
                 *place = price as u64;
             }
             Answer {
@@ -31,7 +41,7 @@ pub fn judge(input: &[u8]) -> Answer {
             }
         }
         Err(number) => Answer {
-            number,
+            number: *number,
             ..Answer::default()
         },
     }
@@ -39,9 +49,18 @@ pub fn judge(input: &[u8]) -> Answer {
 
 /// Greatest value alone: questions 1 to 5 over the book, then 16. The number and the value.
 pub fn greatest_value(book: &[u8], discard: u8) -> (u8, u64) {
+    greatest_by(book, discard, Values::of)
+}
+
+/// The same, with `values` as in `outcome`.
+pub fn greatest_by<V: Borrow<Values>>(
+    book: &[u8],
+    discard: u8,
+    values: impl FnOnce(&Book) -> V,
+) -> (u8, u64) {
     let answer = sound_book(book).and_then(|book| {
         ask(16, question_16(&book, discard))?;
-        Ok(Values::of(&book).greatest_without(usize::from(discard)))
+        Ok((values(&book).borrow()).greatest_without(usize::from(discard)))
     });
     match answer {
         Ok(value) => (0, value as u64),
@@ -56,10 +75,15 @@ pub fn book_refusal(bytes: &[u8]) -> u8 {
 
 /// The whole output of the program ("Price list").
 pub fn price_list(input: &[u8]) -> String {
-    match accepted(input) {
+    text(&outcome(input, Values::of))
+}
+
+/// What is printed for an input of this outcome.
+pub fn text(outcome: &Outcome) -> String {
+    match outcome {
         Ok((book, sheet)) => {
             let mut lines = format!("accepted {} {}\n", sheet.w(), sheet.q);
-            for (bid, price) in sheet.bids().iter().zip(price_numerators(&book, &sheet)) {
+            for (bid, price) in sheet.bids().iter().zip(price_numerators(book, sheet)) {
                 let client = book.bid(*bid).map_or(0, |bid| bid.client);
                 lines += &format!("{client} {bid} {price}\n");
             }
@@ -108,12 +132,14 @@ pub fn balanced(book: &Book, sheet: &Sheet, weights: &Weights) -> Result<(), u8>
     ask(15, question_15(sheet, weights))
 }
 
-/// All of 1 to 15.
-fn accepted(input: &[u8]) -> Result<(Book, Sheet), u8> {
+/// All of 1 to 15. `values` gives the greatest values of a sound book: `Values::of` works them out,
+/// and a caller who puts many sheets over one book may have kept them.
+pub fn outcome<V: Borrow<Values>>(input: &[u8], values: impl FnOnce(&Book) -> V) -> Outcome {
     let book = sound_book(input)?;
     let rest = input.get(book.length()..).unwrap_or(&[]);
     let sheet = proper_sheet(&book, rest)?;
-    balanced(&book, &sheet, &Weights::of(&book, &sheet.bids()))?;
+    let weights = Weights::from_values(&book, values(&book).borrow(), &sheet.bids());
+    balanced(&book, &sheet, &weights)?;
     Ok((book, sheet))
 }
 

@@ -89,6 +89,7 @@ pub fn clients_of(book: &Book, bids: &[usize]) -> usize {
 }
 
 /// Greatest values of a book for all sets of discarded clients, from one listing.
+#[derive(Clone, Debug)]
 pub struct Values {
     /// By set of clients: the largest value of a combination with bids of exactly these clients.
     of_exactly: Vec<Option<i128>>,
@@ -97,12 +98,21 @@ pub struct Values {
 impl Values {
     /// Lists the combinations of a sound book.
     pub fn of(book: &Book) -> Values {
-        let mut of_exactly = vec![None; 1 << book.status.len()];
-        each_combination(book, |list| {
-            let best: &mut Option<i128> = &mut of_exactly[clients_of(book, list)];
-            *best = (*best).max(Some(value(book, list)));
-        });
+        let mut values = Values::before_any(book);
+        each_combination(book, |list| values.note(book, list));
+        values
+    }
+
+    /// No combination noted yet.
+    pub fn before_any(book: &Book) -> Values {
+        let of_exactly = vec![None; 1 << book.status.len()];
         Values { of_exactly }
+    }
+
+    /// Notes one combination of the book.
+    pub fn note(&mut self, book: &Book, list: &[usize]) {
+        let best = &mut self.of_exactly[clients_of(book, list)];
+        *best = (*best).max(Some(value(book, list)));
     }
 
     /// The greatest value with all bids of these clients discarded: the maximum over all

@@ -23,7 +23,7 @@ pub mod sheet;
 pub mod weights;
 
 pub use admissible::{admissible, Discounts};
-pub use answer::{book_refusal, greatest_value, judge, price_list, Answer};
+pub use answer::{book_refusal, greatest_value, judge, price_list, Answer, Outcome};
 pub use book::{Bid, Book};
 pub use sheet::{Multipliers, Sheet, Winner};
 pub use weights::Weights;

@@ -18,7 +18,11 @@ pub struct Weights {
 impl Weights {
     /// For winners that have passed question 8.
     pub fn of(book: &Book, winners: &[usize]) -> Weights {
-        let values = Values::of(book);
+        Weights::from_values(book, &Values::of(book), winners)
+    }
+
+    /// The same with the greatest values of the book at hand.
+    pub fn from_values(book: &Book, values: &Values, winners: &[usize]) -> Weights {
         let v = values.greatest_without(0);
         let sets = 0..1_usize << winners.len();
         Weights {

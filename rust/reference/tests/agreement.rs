@@ -8,9 +8,9 @@ use reference::{admissible, Bid, Book, Discounts, Multipliers, Sheet, Weights, W
 
 /// A sheet with these discounts and no multipliers.
 fn sheet_with(winners: &[usize], discounts: &Discounts) -> Sheet {
-    let x = discounts.x.iter().map(|&x| i128::from(x));
+    let x = discounts.x.iter().copied();
     Sheet {
-        q: i128::from(discounts.q),
+        q: discounts.q,
         s: 1,
         winners: (winners.iter().zip(x))
             .map(|(&bid, x)| Winner {
@@ -25,7 +25,7 @@ fn sheet_with(winners: &[usize], discounts: &Discounts) -> Sheet {
 }
 
 /// Discounts from 0 to ρ(j) over a random q, some of them at either end, mostly near their bounds.
-fn random_discounts(rng: &mut Rng, weights: &Weights) -> (u32, Vec<i64>) {
+fn random_discounts(rng: &mut Rng, weights: &Weights) -> (i128, Vec<i128>) {
     let q = rng.range(1, 4);
     let share = rng.range(1, 4);
     let x = (0..weights.rho.len()).map(|j| {
@@ -36,10 +36,10 @@ fn random_discounts(rng: &mut Rng, weights: &Weights) -> (u32, Vec<i64>) {
             _ => rho.min(weights.sigma_of_one(j) / share + 1),
         };
         let least = if rng.chance(30) { q * most } else { 0 };
-        rng.range(least, q * most) as i64
+        rng.range(least, q * most)
     });
     let x = x.collect();
-    (q as u32, x)
+    (q, x)
 }
 
 #[test]

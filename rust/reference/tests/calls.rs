@@ -1,8 +1,6 @@
 //! Calls A to J.
 
-mod common;
-
-use common::{book_a, book_i, hex, sheet_a, sheet_i, x, S, W};
+use generate::by_hand::{book_a, book_i, hex, sheet_a, sheet_i, x, S, W};
 use reference::{greatest_value, judge, price_list, Answer, Book, Weights};
 
 fn assert_accepted(input: &[u8], w: u8, q: u32, prices: [u64; 6], list: &str) {

@@ -1,8 +1,6 @@
 //! The ways to misprice, each with a sheet that a certifier with that fault would pass.
 
-mod common;
-
-use common::{book_a, hex, sheet_a, x, S, W};
+use generate::by_hand::{book_a, hex, sheet_a, x, S, W};
 use reference::{judge, Book, Sheet, Weights};
 
 #[test]

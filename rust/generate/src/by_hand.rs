@@ -1,5 +1,4 @@
-//! Bytes for the tests, written without the library.
-#![allow(dead_code)]
+//! Books and sheets made by hand, written without the reference's own types.
 
 /// Bytes from hex digits; spaces and line ends are left out.
 pub fn hex(digits: &str) -> Vec<u8> {
