@@ -14,6 +14,10 @@
 HOLDS(worth_size, sizeof(struct gimletsorrel_worth) == 8);
 FIELD(worth, number, 0, 4);
 FIELD(worth, value, 4, 4);
+HOLDS(surpluses_size, sizeof(struct gimletsorrel_surpluses) == 528);
+FIELD(surpluses, number, 0, 4);
+FIELD(surpluses, value, 8, 8);
+FIELD(surpluses, sigma, 16, 512);
 HOLDS(prices_size, sizeof(struct gimletsorrel_prices) == 64);
 FIELD(prices, number, 0, 4);
 FIELD(prices, w, 4, 4);
@@ -42,6 +46,12 @@ static int is_worth(size_t len, uint8_t discard, uint32_t number, uint32_t value
     return worth.number == number && worth.value == value;
 }
 
+static int is_surplus(uint8_t set, uint64_t sigma)
+{
+    struct gimletsorrel_surpluses table = gimletsorrel_surpluses(book, sizeof book);
+    return table.number == 0 && table.value == 110 && table.sigma[set] == sigma;
+}
+
 static int is_refused(size_t len, uint32_t number)
 {
     static const uint64_t zeros[6];
@@ -65,6 +75,10 @@ int main(void)
     expect(is_worth(sizeof book, 5, 0, 50), "the greatest value without clients 1 and 3");
     expect(is_worth(sizeof book, 255, 16, 0), "a discard byte that names too many");
     expect(is_worth(0, 0, 1, 0), "the greatest value of nothing");
+    expect(is_surplus(0, 0), "the surplus of nobody");
+    expect(is_surplus(1, 40), "the surplus of client 1");
+    expect(is_surplus(5, 60), "the surplus of clients 1 and 3");
+    expect(is_surplus(63, 0), "the surplus of clients that are not there");
     expect(is_refused(sizeof book, 6), "a book without a sheet");
     expect(is_refused(0, 1), "no call at all");
     expect(is_text(sizeof book, "refused 6\n"), "the text of a book without a sheet");

@@ -30,6 +30,14 @@ struct gimletsorrel_worth {
     uint32_t value;  /* the greatest value in credits; 0 after a refusal */
 };
 
+/* The greatest value of a book, and for each set of its clients how much less it is without them. After a refusal everything but the
+   number is 0. */
+struct gimletsorrel_surpluses {
+    uint32_t number;    /* 0, or the number of the refusal: 1 to 5 */
+    uint64_t value;     /* the greatest value in credits */
+    uint64_t sigma[64]; /* by the set's number, whose bit 0 is client 1; 0 for numbers that are no set of the book's clients */
+};
+
 /* The answer to a call. After a refusal everything but the number is 0. */
 struct gimletsorrel_prices {
     uint32_t number;    /* 0 for acceptance, or the number of the first question answered no: 1 to 15 */
@@ -46,6 +54,9 @@ struct gimletsorrel_text {
 
 /* The greatest value of a book with clients discarded: bit 0 of `discard` is client 1. What follows the book is not looked at. */
 struct gimletsorrel_worth gimletsorrel_greatest_value(const uint8_t *book, size_t len, uint8_t discard);
+
+/* The greatest value of a book, and what each set of its clients adds to it. What follows the book is not looked at. */
+struct gimletsorrel_surpluses gimletsorrel_surpluses(const uint8_t *book, size_t len);
 
 /* The answer to a call: a book, and the sheet from the byte after it to the end. */
 struct gimletsorrel_prices gimletsorrel_judge_sheet(const uint8_t *input, size_t len);

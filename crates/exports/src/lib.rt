@@ -1,9 +1,14 @@
 // The library for callers in C and Rust: functions that return their answers by value and lend nothing.
+use book::layout;
 use judge::Prices;
 use text::Text;
+use winners::SigmaTable;
 use winners::Worth;
+ghost use mathlib.Core.List.{[], _∷_};
+ghost use Rattle.book.specs.Layout.{n-of};
 ghost use Rattle.judge.specs.Judgement.{Judgement};
 ghost use Rattle.listing.specs.Listing.{Listed};
+ghost use Rattle.winners.specs.Surpluses.{Surpluses-are};
 ghost use Rattle.winners.specs.Worth.{Worth-is};
 
 // The greatest value of a book with clients discarded.
@@ -12,6 +17,15 @@ pub extern "C" fn gimletsorrel_greatest_value(book: &[u8], discard: u8) -> Worth
     ensures { λ r. ⌜ Worth-is (now (book .entry)) discard (r .number) (r .value) ⌝ }
 {
     winners::greatest_value(book, discard)
+}
+
+// The greatest value of a book, and σ of every set of its clients.
+#[no_mangle]
+pub extern "C" fn gimletsorrel_surpluses(book: &[u8]) -> SigmaTable
+    ensures { λ r. ⌜ Surpluses-are (now (book .entry)) (1 ∷ 2 ∷ 3 ∷ 4 ∷ 5 ∷ 6 ∷ []) (n-of (now (book .entry))) (r .number) (r .value) (r .sigma) ⌝ }
+{
+    let n = layout::clients(book) as usize;
+    winners::surpluses(book, [1, 2, 3, 4, 5, 6], n)
 }
 
 // The answer to an input: a book, and the sheet after it.

@@ -46,8 +46,8 @@ fn greatest_values_are_alike() {
             assert_eq!(asked.map_or(0, |value| value as u32), ours.value);
             assert_eq!(asked.err().map_or(0, u32::from), ours.number);
             if ours.number == 0 {
-                let others = [plain::greatest_value, search::greatest_value, branch::greatest_value];
-                assert_eq!(others.map(|value| value(&book, discard) as u32), [ours.value; 3]);
+                let others = [plain::greatest_value, branch::greatest_value];
+                assert_eq!(others.map(|value| value(&book, discard) as u32), [ours.value; 2]);
             }
         }
     }

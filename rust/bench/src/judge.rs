@@ -2,7 +2,7 @@
 
 use crate::certificate::{self, Bounds};
 use crate::questions::{self, reserves_of};
-use crate::search::greatest;
+use crate::search::{greatest, greatest_of};
 use crate::shape::{fits, rest, Shape};
 use crate::sheet::{self, Sheet};
 use certifier::Prices;
@@ -39,9 +39,10 @@ fn discard_of(clients: &[u8], set: usize) -> u8 {
 }
 
 fn surpluses(book: &Shape, clients: &[u8], v: u64) -> [u64; 64] {
-    let mut sigma = [0; 64];
-    for set in 1..1 << clients.len() {
-        sigma[set] = v - greatest(book, discard_of(clients, set));
+    let sets = 1 << clients.len();
+    let mut sigma = greatest_of(book, (0..sets).map(|set| discard_of(clients, set)));
+    for value in &mut sigma[..sets] {
+        *value = v - *value;
     }
     sigma
 }

@@ -3,14 +3,14 @@
 use crate::questions;
 use crate::shape::{fits, rest, Shape};
 
-/// What the search looks up.
+/// What the search looks up, whoever is discarded.
 struct Lookups {
     weights: [u64; 48],
     links: [usize; 56],
-    tops: [u64; 8],
+    most: [u64; 7],
 }
 
-fn look_up(s: &Shape, discard: u8) -> Lookups {
+fn look_up(s: &Shape) -> Lookups {
     let mut weights = [0; 48];
     let mut links = [s.bids; 56];
     let mut most = [0; 7];
@@ -22,12 +22,11 @@ fn look_up(s: &Shape, discard: u8) -> Lookups {
         links[48 + client] = i;
         most[client] = most[client].max(weights[i]);
     }
-    let tops = ceilings(s, discard, &most);
-    Lookups { weights, links, tops }
+    Lookups { weights, links, most }
 }
 
 /// For each client the sum of the largest weights of the clients that stay, from it on.
-fn ceilings(s: &Shape, discard: u8, most: &[u64; 7]) -> [u64; 8] {
+fn ceilings(s: &Shape, discard: u8, most: &[u64; 7]) -> Tops {
     let mut tops = [0; 8];
     for c in (1..=s.clients).rev() {
         let own = if s.stays(c, discard) { most[c] } else { 0 };
@@ -36,35 +35,46 @@ fn ceilings(s: &Shape, discard: u8, most: &[u64; 7]) -> [u64; 8] {
     tops
 }
 
-fn search(s: &Shape, l: &Lookups, ahead: usize, client: usize, left: [u8; 4], floor: u64) -> u64 {
-    if ahead == 0 || l.tops[client] <= floor {
+type Tops = [u64; 8];
+
+fn search(s: &Shape, l: &Lookups, tops: &Tops, ahead: usize, client: usize, left: [u8; 4], floor: u64) -> u64 {
+    if ahead == 0 || tops[client] <= floor {
         return floor;
     }
-    let ceiling = l.tops[client + 1];
+    let ceiling = tops[client + 1];
     let mut top = floor;
-    let mut i = if ceiling < l.tops[client] { l.links[48 + client] } else { s.bids };
+    let mut i = if ceiling < tops[client] { l.links[48 + client] } else { s.bids };
     while i < s.bids {
         let weight = l.weights[i];
         let at = s.place(i);
         if top < weight + ceiling && fits(s.hours(at), &left) {
             let after = rest(s.hours(at), left);
-            let more = search(s, l, ahead - 1, client + 1, after, top.saturating_sub(weight));
+            let more = search(s, l, tops, ahead - 1, client + 1, after, top.saturating_sub(weight));
             top = top.max(weight + more);
         }
         i = l.links[i];
     }
-    search(s, l, ahead - 1, client + 1, left, top)
+    search(s, l, tops, ahead - 1, client + 1, left, top)
+}
+
+fn greatest_by(shape: &Shape, lookups: &Lookups, discard: u8) -> u64 {
+    let tops = ceilings(shape, discard, &lookups.most);
+    search(shape, lookups, &tops, shape.clients, 1, shape.supply(), 0)
 }
 
 /// The greatest value with clients discarded.
 pub fn greatest(shape: &Shape, discard: u8) -> u64 {
-    let lookups = look_up(shape, discard);
-    search(shape, &lookups, shape.clients, 1, shape.supply(), 0)
+    greatest_by(shape, &look_up(shape), discard)
 }
 
-/// The greatest value of a sound book, with no question put.
-pub fn greatest_value(book: &[u8], discard: u8) -> u64 {
-    greatest(&Shape::of(book), discard)
+/// The greatest values with each of the sets of clients discarded, looked up once.
+pub fn greatest_of(shape: &Shape, discards: impl Iterator<Item = u8>) -> [u64; 64] {
+    let lookups = look_up(shape);
+    let mut values = [0; 64];
+    for (value, discard) in values.iter_mut().zip(discards) {
+        *value = greatest_by(shape, &lookups, discard);
+    }
+    values
 }
 
 /// The greatest value of any bytes, as ours: questions 1 to 5 and 16 first.

@@ -9,6 +9,15 @@ pub struct Worth {
     pub value: u32,
 }
 
+/// The greatest value of a book, and σ of each set of its clients by the set's number; zeros after a refusal.
+#[repr(C)]
+#[derive(Clone, Copy, Debug, PartialEq, Eq)]
+pub struct SigmaTable {
+    pub number: u32,
+    pub value: u64,
+    pub sigma: [u64; 64],
+}
+
 /// The answer to a call: 0 and the prices over q of w winners, or the number of the refusal and zeros.
 #[repr(C)]
 #[derive(Clone, Copy, Debug, PartialEq, Eq)]
@@ -29,6 +38,7 @@ pub struct Text {
 
 extern "C" {
     fn gimletsorrel_greatest_value(book: *const u8, len: usize, discard: u8) -> Worth;
+    fn gimletsorrel_surpluses(book: *const u8, len: usize) -> SigmaTable;
     fn gimletsorrel_judge_sheet(input: *const u8, len: usize) -> Prices;
     fn gimletsorrel_price_list(input: *const u8, len: usize) -> Text;
 }
@@ -37,6 +47,12 @@ extern "C" {
 pub fn greatest_value(book: &[u8], discard: u8) -> Worth {
     // SAFETY: the slice is lent for the call, which reads within it alone.
     unsafe { gimletsorrel_greatest_value(book.as_ptr(), book.len(), discard) }
+}
+
+/// The greatest value, and σ of each set of clients; bit 0 of a set's number is client 1. Any bytes will do.
+pub fn surpluses(book: &[u8]) -> SigmaTable {
+    // SAFETY: the slice is lent for the call, which reads within it alone.
+    unsafe { gimletsorrel_surpluses(book.as_ptr(), book.len()) }
 }
 
 /// The answer to a call, a book and the sheet after it. Any bytes will do.

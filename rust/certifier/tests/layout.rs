@@ -1,7 +1,7 @@
 //! The declarations against the text of the Rattle source: the layouts that its structs have by the rules of C, and the functions that it
 //! exports. A struct or a function that is changed there and not here fails.
 
-use certifier::{Prices, Text, Worth};
+use certifier::{Prices, SigmaTable, Text, Worth};
 use std::mem::{align_of, offset_of, size_of};
 use std::path::Path;
 
@@ -82,6 +82,12 @@ fn worth_is_laid_out_as_in_the_source() {
 }
 
 #[test]
+fn surpluses_are_laid_out_as_in_the_source() {
+    let declared = declared!(SigmaTable { number: u32, value: u64, sigma: [u64; 64] });
+    assert_eq!(declared, expected(&source("winners/src/table.rt"), "SigmaTable"));
+}
+
+#[test]
 fn prices_are_laid_out_as_in_the_source() {
     let declared = declared!(Prices { number: u32, w: u32, q: u32, prices: [u64; 6] });
     assert_eq!(declared, expected(&source("judge/src/lib.rt"), "Prices"));
@@ -100,11 +106,12 @@ fn the_source_exports_what_is_declared() {
     let exported: Vec<&str> = source.lines().filter_map(|line| line.strip_prefix("pub extern \"C\" fn ")).collect();
     let declared = [
         "gimletsorrel_greatest_value(book: &[u8], discard: u8) -> Worth",
+        "gimletsorrel_surpluses(book: &[u8]) -> SigmaTable",
         "gimletsorrel_judge_sheet(input: &[u8]) -> Prices",
         "gimletsorrel_price_list(input: &[u8]) -> Text",
     ];
     assert_eq!(exported, declared);
-    for line in ["use winners::Worth;", "use judge::Prices;", "use text::Text;"] {
+    for line in ["use winners::Worth;", "use winners::SigmaTable;", "use judge::Prices;", "use text::Text;"] {
         assert!(source.lines().any(|other| other == line), "{line}");
     }
 }
