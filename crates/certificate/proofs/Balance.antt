@@ -1,42 +1,19 @@
--- Numbers with a sign, by their 64 bits, and the equation of question 14 in numbers without one. Cited by the proofs of questions 7 and
--- 14. Assumes nothing.
-use mathlib.Core.Path.{_≡_, refl, sym, ap, _∙_}
-use mathlib.Core.Bool.{Bool, true, false, cond}
+-- The equation of question 14 in numbers without a sign. Cited by the proofs of question 14. Assumes nothing.
+use mathlib.Core.Path.{_≡_, sym, ap, _∙_}
+use mathlib.Core.Bool.{true}
 use mathlib.Core.Logic.{_↔_}
-use Prim.Native.Nat.{ℕ, zero, suc, _+_, _*_, _-_, _^_}
-use native.Mathlib.Omega.{arith}
-use lib.Dec.{ltb, eqb}
-use lib.IntN.{ℤ, pos, natAbs, negℤ, _+ℤ_, _-ℤ_, +ℤ-assoc, +ℤ-comm, +ℤ-idr, +ℤ-invl, +ℤ-negℤ-cancel, -ℤ-+ℤ-cancel}
+use Prim.Native.Nat.{ℕ, _+_, _*_}
+use lib.Dec.{eqb}
+use lib.IntN.{ℤ, pos, natAbs, _+ℤ_, _-ℤ_, +ℤ-assoc, +ℤ-comm, +ℤ-negℤ-cancel, -ℤ-+ℤ-cancel}
 use Rattle.sets.specs.Sets.{single, holding}
 use Rattle.pricing.specs.Questions.{Asks, every, test, stationary}
 use Rattle.pricing.proofs.Questions.{every-iff, test-iff}
-use Rattle.certificate.specs.declared.Figures.{Figures}
+use Rattle.ranges.specs.declared.Figures.{Figures}
 use Rattle.pricing.specs.Ranges.{signed}
-use Rattle.certificate.specs.Figures.{at, above, below, certificate}
-use Rattle.certificate.proofs.Tests.{eqb-iff, same-fact}
+use Rattle.ranges.specs.Figures.{at, above, below, certificate}
+use Rattle.ranges.proofs.Signed.{signed-parts}
+use Rattle.ranges.proofs.Tests.{eqb-iff, same-fact}
 
--- A NUMBER WITH A SIGN IS ITS PARTS
-pub negative-magnitude : (n : ℕ) → natAbs (negℤ (pos n)) ≡ n
-negative-magnitude zero = refl
-negative-magnitude (suc n) = refl
-
-pub signed-magnitude : (g : ℕ) → natAbs (signed g) ≡ above g + below g
-unfolding signed above below
-signed-magnitude g = go (ltb g (2 ^ 63))
-  where
-    go : (b : Bool) → natAbs (cond b (pos g) (negℤ (pos (2 ^ 64 - g)))) ≡ cond b g 0 + cond b 0 (2 ^ 64 - g)
-    go true = omega arith
-    go false = omega (arith, negative-magnitude (2 ^ 64 - g))
-
-pub signed-parts : (g : ℕ) → signed g +ℤ pos (below g) ≡ pos (above g)
-unfolding signed above below
-signed-parts g = go (ltb g (2 ^ 63))
-  where
-    go : (b : Bool) → cond b (pos g) (negℤ (pos (2 ^ 64 - g))) +ℤ pos (cond b 0 (2 ^ 64 - g)) ≡ pos (cond b g 0)
-    go true = +ℤ-idr (pos g)
-    go false = +ℤ-invl (pos (2 ^ 64 - g))
-
--- QUESTION 14 IN NUMBERS WITHOUT A SIGN
 right-comm : (a b c : ℤ) → a +ℤ b +ℤ c ≡ a +ℤ c +ℤ b
 right-comm a b c = +ℤ-assoc a b c ∙ ap (λ z. a +ℤ z) (+ℤ-comm b c) ∙ sym (+ℤ-assoc a c b)
 

@@ -10,11 +10,13 @@ use Rattle.pricing.specs.Questions.{Asks, test, within-reserve, within-sets, co
 use Rattle.pricing.specs.Questions.{slack-sets, slack-reserve, slack-zero}
 use Rattle.pricing.proofs.Questions.{every-iff, test-iff}
 use Rattle.pricing.specs.Ranges.{in-range}
-use Rattle.certificate.specs.Questions.{tables-fit, reserve-in-range, reserve-kept, reserve-number}
+use Rattle.ranges.specs.Bounds.{tables-fit, reserve-in-range}
+use Rattle.certificate.specs.Questions.{reserve-kept, reserve-number}
 use Rattle.certificate.specs.Questions.{slack-test, first-failed, balances-number}
-use Rattle.certificate.specs.Ranges.{Ranges, Reserves, Ready}
-use Rattle.certificate.proofs.Tests.{leb-iff, and-iff}
-use Rattle.certificate.proofs.InRange.{in-range-iff, tables-fit-iff, reserve-in-range-iff}
+use Rattle.ranges.specs.Ranges.{Ranges, Reserves}
+use Rattle.certificate.specs.Ranges.{Ready}
+use Rattle.ranges.proofs.Tests.{leb-iff, and-iff}
+use Rattle.ranges.proofs.InRange.{in-range-iff, tables-fit-iff, reserve-in-range-iff}
 
 -- ONE TEST: where it fails, its number; else the number of what follows
 passed-iff : (b : Bool) (n m : ℕ) {P Q : Type 0} → 1 ≤ m → (b ≡ true) ↔ P → (n ≡ 0) ↔ Q → (cond b n m ≡ 0) ↔ (P × Q)

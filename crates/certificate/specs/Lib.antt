@@ -1,4 +1,3 @@
--- Certificates as figures in arrays, question 7 on their ranges, and the numbers that refuse them.
-pub mod Figures
+-- The numbers that refuse a certificate, and what must be in range for them.
 pub mod Questions
 pub mod Ranges

@@ -4,16 +4,9 @@ use mathlib.Core.Bool.{Bool, cond, _&&_}
 use Prim.Native.Nat.{ℕ, _*_}
 use lib.Dec.{leb}
 use Rattle.pricing.specs.Certificate.{Certificate}
-use Rattle.pricing.specs.Ranges.{winners-at-most, sets-at-most, scale-in-range, in-range}
+use Rattle.pricing.specs.Ranges.{in-range}
 use Rattle.pricing.specs.Questions.{every, test, within-sets, cover, totals, stationary, slack-sets, slack-reserve, slack-zero}
-
--- whether the bounds σ of sets and ρ of winners are within those of any book
-unfoldable pub tables-fit : (w : ℕ) → (σ ρ : ℕ → ℕ) → Bool
-tables-fit w σ ρ = leb w 6 && sets-at-most w 6000000 σ && winners-at-most w 1000000 ρ
-
--- whether what question 10 reads is in range
-unfoldable pub reserve-in-range : (w q : ℕ) → (ρ : ℕ → ℕ) → Bool
-reserve-in-range w q ρ = leb w 6 && scale-in-range q && winners-at-most w 1000000 ρ
+use Rattle.ranges.specs.Bounds.{tables-fit, reserve-in-range}
 
 -- question 10, the test
 unfoldable pub reserve-kept : (w q : ℕ) → (ρ x : ℕ → ℕ) → Bool

@@ -1,15 +1,15 @@
 // Questions 11 to 15 in a row.
 ghost use mathlib.Core.Path.{_≡_};
-ghost use Rattle.certificate.specs.Figures.{at, certificate};
+ghost use Rattle.ranges.specs.Figures.{at, certificate};
 ghost use Rattle.certificate.specs.Questions.{first-failed};
 ghost use Rattle.certificate.specs.Ranges.{Ready};
-use crate::Figures;
 use crate::duals::all_covered;
 use crate::duals::totals_meet;
-use crate::logic::answer;
 use crate::nearest::all_balanced;
 use crate::slack::all_slack;
 use crate::within::sets_kept;
+use ranges::Figures;
+use ranges::logic::answer;
 
 // The first of questions 11 to 15 whose answer is no, or 0: the numbers are picked from the last question to the first.
 pub(crate) fn first_failed(f: Figures, sigma: [u64; 64], rho: [u64; 6]) -> u8

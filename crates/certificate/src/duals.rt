@@ -2,14 +2,15 @@
 ghost use mathlib.Core.Path.{_≡_};
 ghost use Prim.Native.Nat.{ℕ};
 ghost use Rattle.pricing.specs.Questions.{test, cover, totals};
-ghost use Rattle.certificate.specs.Figures.{at, certificate};
-ghost use Rattle.certificate.specs.Ranges.{Ranges, Ready};
-use crate::Figures;
-use crate::logic::both;
+ghost use Rattle.ranges.specs.Figures.{at, certificate};
+ghost use Rattle.ranges.specs.Ranges.{Ranges};
+ghost use Rattle.certificate.specs.Ranges.{Ready};
 use crate::sums::held;
 use crate::sums::sets_weighed;
 use crate::sums::total;
 use crate::sums::winners_weighed;
+use ranges::Figures;
+use ranges::logic::both;
 
 // Question 12.
 pub(crate) fn all_covered(f: Figures) -> bool

@@ -2,13 +2,14 @@
 ghost use mathlib.Core.Path.{_≡_};
 ghost use Prim.Native.Nat.{ℕ};
 ghost use Rattle.pricing.specs.Questions.{test, slack, slack-sets, slack-reserve, slack-zero};
-ghost use Rattle.certificate.specs.Figures.{at, certificate};
+ghost use Rattle.ranges.specs.Figures.{at, certificate};
 ghost use Rattle.certificate.specs.Questions.{slack-test};
-ghost use Rattle.certificate.specs.Ranges.{Ranges, Sets-ready, Winners-ready, Ready};
-use crate::Figures;
-use crate::logic::both;
+ghost use Rattle.ranges.specs.Ranges.{Ranges};
+ghost use Rattle.certificate.specs.Ranges.{Sets-ready, Winners-ready, Ready};
 use crate::members::power;
 use crate::sums::sum_in;
+use ranges::Figures;
+use ranges::logic::both;
 
 // Whether a multiplier is zero or its bound is met.
 fn slack_at(multiplier: u64, a: u64, b: u64) -> bool

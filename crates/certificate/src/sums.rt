@@ -3,7 +3,7 @@ ghost use mathlib.Core.Path.{_≡_};
 ghost use Prim.Native.Nat.{_≤_, _*_, _^_};
 ghost use Rattle.sets.specs.Sums.{sum};
 ghost use Rattle.sets.specs.Sets.{sum-in, over-sets, holding};
-ghost use Rattle.certificate.specs.Figures.{at};
+ghost use Rattle.ranges.specs.Figures.{at};
 ghost use Rattle.certificate.specs.Ranges.{Winners-add, Holding-add, Sets-weigh, Winners-weigh};
 use crate::members::power;
 use crate::members::share;

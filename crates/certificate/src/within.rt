@@ -2,13 +2,14 @@
 ghost use mathlib.Core.Path.{_≡_};
 ghost use Prim.Native.Nat.{ℕ};
 ghost use Rattle.pricing.specs.Questions.{test, within-sets};
-ghost use Rattle.certificate.specs.Figures.{at, certificate};
+ghost use Rattle.ranges.specs.Figures.{at, certificate};
 ghost use Rattle.certificate.specs.Questions.{reserve-kept};
-ghost use Rattle.certificate.specs.Ranges.{Reserves, Sets-ready};
-use crate::Figures;
-use crate::logic::both;
+ghost use Rattle.ranges.specs.Ranges.{Reserves};
+ghost use Rattle.certificate.specs.Ranges.{Sets-ready};
 use crate::members::power;
 use crate::sums::sum_in;
+use ranges::Figures;
+use ranges::logic::both;
 
 // Question 10.
 pub(crate) fn reserve_kept(w: usize, q: u64, x: [u64; 6], rho: [u64; 6]) -> bool

@@ -25,8 +25,8 @@ use Rattle.combinations.specs.Greatest.{greatest}
 use Rattle.combinations.specs.Surplus.{surplus}
 use Rattle.choice.specs.Chosen.{choice-good, choice-refusal, six, Chosen-is}
 use Rattle.winners.specs.Surpluses.{rising-to, list-good, list-refusal, surplus-table, Surpluses-are}
-use Rattle.certificate.specs.Figures.{certificate}
-use Rattle.certificate.specs.declared.Figures.{Figures}
+use Rattle.ranges.specs.Figures.{certificate}
+use Rattle.ranges.specs.declared.Figures.{Figures}
 use Rattle.demands.specs.Input.{book, sheet}
 use Rattle.demands.specs.Questions.{winners-good, value-good, judged}
 use Rattle.demands.specs.Winners.{clients-of, sigma}

@@ -15,8 +15,8 @@ use Rattle.book.specs.Questions.{book-refusal}
 use Rattle.book.proofs.Places.{clients-count}
 use Rattle.book.proofs.Soundness.{sound}
 use Rattle.market.proofs.Bools.{either}
-use Rattle.certificate.specs.declared.Figures.{Figures}
-use Rattle.certificate.proofs.InRange.{in-range-iff}
+use Rattle.ranges.specs.declared.Figures.{Figures}
+use Rattle.ranges.proofs.InRange.{in-range-iff}
 use Rattle.sheet.specs.declared.Sheet.{Sheet}
 use Rattle.sheet.specs.Reading.{Sheet-read}
 use Rattle.sheet.proofs.Uses.{read-number, slice-rest}

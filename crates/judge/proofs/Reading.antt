@@ -16,7 +16,7 @@ use Rattle.pricing.specs.Certificate.{Certificate}
 use Rattle.book.specs.Book.{Book, bid-at, reserves-of}
 use Rattle.combinations.specs.Combinations.{amount-of}
 use Rattle.market.specs.Market.{at}
-use Rattle.certificate.specs.declared.Figures.{Figures}
+use Rattle.ranges.specs.declared.Figures.{Figures}
 use Rattle.sheet.specs.Reading.{six-of}
 use Rattle.sets.proofs.Filled.{Filled}
 use Rattle.sets.proofs.Prefixes.{prefix-length, prefix-at}

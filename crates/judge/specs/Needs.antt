@@ -6,8 +6,8 @@ use mathlib.Core.List.{List}
 use Prim.Native.Nat.{ℕ, _^_, _<_}
 use lib.ListN.{getD}
 use Rattle.book.specs.Questions.{book-refusal}
-use Rattle.certificate.specs.Figures.{certificate}
-use Rattle.certificate.specs.declared.Figures.{Figures}
+use Rattle.ranges.specs.Figures.{certificate}
+use Rattle.ranges.specs.declared.Figures.{Figures}
 use Rattle.pricing.specs.Ranges.{in-range}
 use Rattle.sheet.specs.Reading.{six-of}
 use Rattle.demands.specs.Input.{book, sheet, sheet-part}

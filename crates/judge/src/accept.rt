@@ -2,7 +2,7 @@
 use crate::Prices;
 use crate::bounds;
 use book::entries;
-use certificate::Figures;
+use ranges::Figures;
 ghost use mathlib.Core.Path.{_≡_};
 ghost use Prim.Native.Nat.{_≤_};
 ghost use Rattle.demands.specs.Answer.{acceptance, price};

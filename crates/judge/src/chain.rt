@@ -1,6 +1,6 @@
 // Questions 7 to 15 in their order, put to a sheet that has been read: the number of the first that is answered no.
 use crate::bounds;
-use certificate::Figures;
+use ranges::Figures;
 ghost use mathlib.Core.Path.{_≡_};
 ghost use Rattle.demands.specs.Input.{book, sheet};
 ghost use Rattle.demands.specs.Questions.{judged};
@@ -26,7 +26,7 @@ pub(crate) fn number_of(input: &[u8], bids: [u8; 6], figures: Figures) -> u8
     requires { ⌜ Read (now input) bids figures ⌝ }
     ensures { λ r. ⌜ r ≡ judged (book (now (input .entry))) (sheet (now (input .entry))) ⌝ }
 {
-    let seven = certificate::ranges(figures);
+    let seven = ranges::ranges(figures);
     if 0 < seven {
         return seven;
     }

@@ -11,7 +11,7 @@ use lib.Dec.{leb, ltb}
 use lib.ListN.{getD, set, replicate, length-set, length-replicate}
 use lib.Seq.{getD-set-same, getD-set-other}
 use borrow.Author.Tests.{le-leb}
-use Rattle.certificate.specs.Figures.{at}
+use Rattle.ranges.specs.Figures.{at}
 use Rattle.demands.specs.Sheet.{of-winner, of-set}
 use Rattle.demands.proofs.Sheet.{of-winner-at, of-winner-past}
 use Rattle.sheet.specs.Columns.{Filled}

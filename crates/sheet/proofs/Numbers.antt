@@ -5,8 +5,8 @@ use Prim.Native.Nat.{ℕ, _+_, _*_}
 use native.Mathlib.Nat.{add-zero}
 use Rattle.book.specs.Bytes.{field}
 use Rattle.pricing.specs.Ranges.{signed}
-use Rattle.certificate.specs.declared.Figures.{Figures}
-use Rattle.certificate.specs.Figures.{certificate}
+use Rattle.ranges.specs.declared.Figures.{Figures}
+use Rattle.ranges.specs.Figures.{certificate}
 use Rattle.demands.specs.Sheet.{winner-place, set-place, of-winner, of-set, numbers-in}
 use Rattle.sheet.specs.Columns.{Winners-read, Sets-read}
 

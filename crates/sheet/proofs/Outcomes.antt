@@ -6,8 +6,8 @@ use Prim.Native.Nat.{ℕ, _+_}
 use native.Mathlib.Omega.{arith}
 use lib.ListN.{replicate}
 use Rattle.book.specs.Bytes.{byte, bytes-at}
-use Rattle.certificate.specs.declared.Figures.{Figures}
-use Rattle.certificate.specs.Figures.{certificate}
+use Rattle.ranges.specs.declared.Figures.{Figures}
+use Rattle.ranges.specs.Figures.{certificate}
 use Rattle.demands.specs.Sheet.{sheet-w, numbers-in, sheet-in}
 use Rattle.sheet.specs.Columns.{Filled}
 use Rattle.sheet.specs.Form.{few-good}

@@ -10,7 +10,7 @@ use lib.Seq.{ext-getD}
 use Rattle.book.specs.Bytes.{byte, bytes-at}
 use Rattle.book.proofs.Next.{bytes-length}
 use Rattle.book.proofs.Places.{bytes-entry}
-use Rattle.certificate.specs.Figures.{at}
+use Rattle.ranges.specs.Figures.{at}
 use Rattle.demands.specs.Sheet.{of-winner}
 use Rattle.demands.proofs.Sheet.{of-winner-at, of-winner-past}
 use Rattle.sheet.specs.Columns.{Filled}

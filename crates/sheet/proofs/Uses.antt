@@ -15,7 +15,7 @@ use Rattle.book.specs.Book.{Book, clients}
 use Rattle.book.proofs.Next.{bytes-length}
 use Rattle.book.proofs.Tests.{both-true}
 use Rattle.pricing.specs.Certificate.{Certificate}
-use Rattle.certificate.specs.Figures.{at}
+use Rattle.ranges.specs.Figures.{at}
 use Rattle.demands.specs.Sheet.{sheet-w, numbers-in, sheet-in}
 use Rattle.demands.specs.Questions.{form-good}
 use Rattle.demands.proofs.Form.{form-few}

@@ -6,7 +6,7 @@ use mathlib.Core.List.{List}
 use Prim.Native.Nat.{ℕ, _+_, _≤_}
 use lib.ListN.{length}
 use Rattle.book.specs.Bytes.{field}
-use Rattle.certificate.specs.Figures.{at}
+use Rattle.ranges.specs.Figures.{at}
 use Rattle.demands.specs.Sheet.{winner-place, set-place, of-winner, of-set}
 
 -- how many bytes a number has

@@ -8,8 +8,8 @@ use Prim.Native.Nat.{ℕ, _-_}
 use lib.Dec.{leb}
 use lib.ListN.{length, replicate}
 use Rattle.book.specs.Book.{Book, clients}
-use Rattle.certificate.specs.declared.Figures.{Figures}
-use Rattle.certificate.specs.Figures.{certificate}
+use Rattle.ranges.specs.declared.Figures.{Figures}
+use Rattle.ranges.specs.Figures.{certificate}
 use Rattle.demands.specs.Sheet.{sheet-w, sheet-in}
 use Rattle.demands.specs.Questions.{form-good}
 use Rattle.sheet.specs.declared.Sheet.{Sheet}

@@ -2,10 +2,10 @@
 use crate::columns::number_at;
 use crate::columns::sets_column;
 use crate::columns::winners_column;
-use certificate::Figures;
+use ranges::Figures;
 ghost use mathlib.Core.Path.{_≡_};
 ghost use Prim.Native.Nat.{_≤_};
-ghost use Rattle.certificate.specs.Figures.{certificate};
+ghost use Rattle.ranges.specs.Figures.{certificate};
 ghost use Rattle.demands.specs.Sheet.{numbers-in};
 ghost use Rattle.sheet.specs.Reading.{zero-figures};
 

@@ -4,7 +4,7 @@
 // the laws of proofs/Uses.antt on what that says. The caller hands over the bytes from the book's end on, and the book's number of
 // clients.
 ghost use Rattle.sheet.specs.Reading.{Sheet-read};
-use certificate::Figures;
+use ranges::Figures;
 
 mod columns;
 mod figures;

@@ -2,10 +2,11 @@
 use mathlib.Core.Path.{_≡_, sym, _∙_}
 use mathlib.Core.Bool.{true}
 use borrow.Author.Tests.{not-true, not-false}
-use Rattle.certificate.specs.Figures.{at, certificate}
+use Rattle.ranges.specs.Figures.{at, certificate}
 use Rattle.pricing.specs.Ranges.{in-range}
-use Rattle.certificate.specs.Questions.{tables-fit, balances-number}
-use Rattle.certificate.proofs.InRange.{in-range-iff, tables-fit-iff}
+use Rattle.ranges.specs.Bounds.{tables-fit}
+use Rattle.certificate.specs.Questions.{balances-number}
+use Rattle.ranges.proofs.InRange.{in-range-iff, tables-fit-iff}
 use borrow.Author.Needs.{needs}
 use Rattle.certificate.proofs.balances.Statement.{statement}
 use Rattle.certificate.proofs.balances.Tie as tie

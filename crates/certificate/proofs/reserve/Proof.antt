@@ -1,10 +1,10 @@
 -- `reserve` meets its contract. Assumes nothing.
 use mathlib.Core.Path.{refl, sym, _∙_}
 use borrow.Author.Tests.{not-true, not-false}
-use Rattle.certificate.specs.Figures.{at}
+use Rattle.ranges.specs.Figures.{at}
 use Rattle.certificate.specs.Questions.{reserve-number}
-use Rattle.certificate.proofs.Tests.{answer-eq}
-use Rattle.certificate.proofs.InRange.{reserve-in-range-iff}
+use Rattle.ranges.proofs.Tests.{answer-eq}
+use Rattle.ranges.proofs.InRange.{reserve-in-range-iff}
 use borrow.Author.Needs.{needs}
 use Rattle.certificate.proofs.reserve.Statement.{statement}
 use Rattle.certificate.proofs.reserve.Tie as tie

@@ -1,7 +1,7 @@
 -- `chain::first_failed` meets its contract. Assumes nothing.
 use mathlib.Core.Path.{refl}
 use Rattle.certificate.specs.Questions.{first-failed}
-use Rattle.certificate.proofs.Tests.{answer-eq}
+use Rattle.ranges.proofs.Tests.{answer-eq}
 use borrow.Author.Needs.{needs}
 use Rattle.certificate.proofs.chain.first_failed.Statement.{statement}
 use Rattle.certificate.proofs.chain.first_failed.Tie as tie

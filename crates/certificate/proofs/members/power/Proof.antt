@@ -2,7 +2,7 @@
 use mathlib.Core.Path.{refl}
 use borrow.Author.Needs.{needs}
 use lib.Pow.{pow-pos}
-use Rattle.certificate.proofs.Steps.{power-shift, power-most}
+use Rattle.ranges.proofs.Steps.{power-shift, power-most}
 use Rattle.certificate.proofs.members.power.Statement.{statement}
 use Rattle.certificate.proofs.members.power.Tie as tie
 

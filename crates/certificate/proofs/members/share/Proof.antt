@@ -1,6 +1,6 @@
 -- `members::share` meets its contract: the bit that is shifted down and masked is the member's. Assumes nothing.
 use native.Mathlib.Nat.{le-refl}
-use Rattle.certificate.proofs.Steps.{shared, not-shared}
+use Rattle.ranges.proofs.Steps.{shared, not-shared}
 use native.Mathlib.Omega.{arith}
 use borrow.Author.Needs.{needs}
 use Rattle.certificate.proofs.members.share.Statement.{statement}

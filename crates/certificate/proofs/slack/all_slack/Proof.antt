@@ -1,6 +1,6 @@
 -- `slack::all_slack` meets its contract. Assumes nothing.
 use Rattle.certificate.specs.Questions.{slack-test}
-use Rattle.certificate.proofs.Tests.{both-eq}
+use Rattle.ranges.proofs.Tests.{both-eq}
 use borrow.Author.Needs.{needs}
 use Rattle.certificate.proofs.slack.all_slack.Statement.{statement}
 use Rattle.certificate.proofs.slack.all_slack.Tie as tie

@@ -3,8 +3,8 @@ use mathlib.Core.Path.{_≡_, refl}
 use Prim.Native.Nat.{_-_, _*_, _^_, _≤_}
 use native.Mathlib.Nat.{mul-le-mul}
 use Rattle.pricing.specs.Questions.{every, slack, test}
-use Rattle.certificate.specs.Figures.{at}
-use Rattle.certificate.proofs.Steps.{every-more, every-end}
+use Rattle.ranges.specs.Figures.{at}
+use Rattle.ranges.proofs.Steps.{every-more, every-end}
 use borrow.Author.Needs.{needs}
 use native.Mathlib.Omega.{arith}
 use Rattle.certificate.proofs.slack.slack_reserve.Statement.{statement}

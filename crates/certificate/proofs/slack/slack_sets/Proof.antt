@@ -4,8 +4,8 @@ use Prim.Native.Nat.{_-_, _*_, _^_, _≤_}
 use native.Mathlib.Nat.{mul-le-mul}
 use Rattle.sets.specs.Sets.{sum-in}
 use Rattle.pricing.specs.Questions.{slack, test}
-use Rattle.certificate.specs.Figures.{at}
-use Rattle.certificate.proofs.Steps.{every-before, every-before-none, every-before-more, every-before-end}
+use Rattle.ranges.specs.Figures.{at}
+use Rattle.ranges.proofs.Steps.{every-before, every-before-none, every-before-more, every-before-end}
 use borrow.Author.Needs.{needs}
 use native.Mathlib.Omega.{arith}
 use Rattle.certificate.proofs.slack.slack_sets.Statement.{statement}

@@ -4,8 +4,8 @@ use mathlib.Core.Bool.{cond}
 use Prim.Native.Nat.{_-_, _*_, _^_, _≤_}
 use Rattle.sets.specs.Sums.{sum}
 use Rattle.sets.specs.Sets.{has, sum-in}
-use Rattle.certificate.specs.Figures.{at}
-use Rattle.certificate.proofs.Steps.{sum-more, sum-end}
+use Rattle.ranges.specs.Figures.{at}
+use Rattle.ranges.proofs.Steps.{sum-more, sum-end}
 use borrow.Author.Needs.{needs}
 use native.Mathlib.Omega.{arith}
 use Rattle.certificate.proofs.sums.sum_in.Statement.{statement}

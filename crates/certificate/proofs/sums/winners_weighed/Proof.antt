@@ -2,8 +2,8 @@
 use mathlib.Core.Path.{_≡_, refl}
 use Prim.Native.Nat.{_-_, _*_, _^_, _≤_}
 use Rattle.sets.specs.Sums.{sum}
-use Rattle.certificate.specs.Figures.{at}
-use Rattle.certificate.proofs.Steps.{sum-more, sum-end}
+use Rattle.ranges.specs.Figures.{at}
+use Rattle.ranges.proofs.Steps.{sum-more, sum-end}
 use native.Mathlib.Nat.{mul-le-mul}
 use borrow.Author.Needs.{needs}
 use native.Mathlib.Omega.{arith}

@@ -4,8 +4,8 @@ use Prim.Native.Nat.{_-_, _*_, _^_, _≤_}
 use native.Mathlib.Nat.{mul-le-mul}
 use lib.Dec.{leb}
 use Rattle.pricing.specs.Questions.{every}
-use Rattle.certificate.specs.Figures.{at}
-use Rattle.certificate.proofs.Steps.{every-more, every-end}
+use Rattle.ranges.specs.Figures.{at}
+use Rattle.ranges.proofs.Steps.{every-more, every-end}
 use Rattle.certificate.specs.Questions.{reserve-kept}
 use borrow.Author.Needs.{needs}
 use native.Mathlib.Omega.{arith}

@@ -5,8 +5,8 @@ use native.Mathlib.Nat.{mul-le-mul}
 use lib.Dec.{leb}
 use Rattle.sets.specs.Sets.{sum-in}
 use Rattle.pricing.specs.Questions.{test}
-use Rattle.certificate.specs.Figures.{at}
-use Rattle.certificate.proofs.Steps.{every-before, every-before-none, every-before-more, every-before-end}
+use Rattle.ranges.specs.Figures.{at}
+use Rattle.ranges.proofs.Steps.{every-before, every-before-none, every-before-more, every-before-end}
 use borrow.Author.Needs.{needs}
 use native.Mathlib.Omega.{arith}
 use Rattle.certificate.proofs.within.sets_kept.Statement.{statement}

@@ -1,7 +1,7 @@
 -- `form::sets_of` meets its contract: up to six, the shift loses no bit. Assumes nothing.
 use mathlib.Core.Path.{refl}
 use lib.Pow.{pow-pos}
-use Rattle.certificate.proofs.Steps.{power-shift, power-most}
+use Rattle.ranges.proofs.Steps.{power-shift, power-most}
 use borrow.Author.Needs.{needs}
 use Rattle.sheet.proofs.form.sets_of.Statement.{statement}
 use Rattle.sheet.proofs.form.sets_of.Tie as tie
