@@ -56,25 +56,32 @@ pub fn nearest(target: &[Fraction], sum: Fraction, limits: &[Limit]) -> Nearest 
     }
 }
 
+/// What is left of the factors once the active rows are taken out by their weights.
+fn across(active: &[Active], weights: &[Fraction], factors: &[Fraction]) -> Vec<Fraction> {
+    let left = |k: usize| {
+        let rows = active.iter().zip(weights);
+        factors[k] - rows.map(|(row, &r)| row.factors[k] * r).sum()
+    };
+    (0..factors.len()).map(left).collect()
+}
+
+/// The step at which the first multiplier but that of the sum comes down to zero, and whose it is.
+fn first_at_zero(active: &[Active], weights: &[Fraction]) -> Option<(Fraction, usize)> {
+    let falling = (1..active.len()).filter(|&i| weights[i].sign() > 0);
+    falling.map(|i| (active[i].multiplier / weights[i], i)).min()
+}
+
 /// Moves x onto the broken limit, dropping active limits whose multiplier falls to zero.
 fn take_up(x: &mut [Fraction], active: &mut Vec<Active>, limits: &[Limit], broken: usize) {
     let limit = &limits[broken];
     let mut multiplier = ZERO;
     loop {
         let weights = combine(active, &limit.factors);
-        let direction: Vec<Fraction> = (0..x.len())
-            .map(|k| {
-                let rows = active.iter().zip(&weights);
-                limit.factors[k] - rows.map(|(row, &r)| row.factors[k] * r).sum()
-            })
-            .collect();
+        let direction = across(active, &weights, &limit.factors);
         let steepness = dot(&direction, &limit.factors);
         let whole_step =
             (steepness != ZERO).then(|| (dot(&limit.factors, x) - limit.most) / steepness);
-        let dropped = (1..active.len())
-            .filter(|&i| weights[i].sign() > 0)
-            .map(|i| (active[i].multiplier / weights[i], i))
-            .min();
+        let dropped = first_at_zero(active, &weights);
         let (step, dropped) = match (whole_step, dropped) {
             (Some(whole), Some((part, i))) if part < whole => (part, Some(i)),
             (Some(whole), _) => (whole, None),

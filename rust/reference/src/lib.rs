@@ -1,6 +1,6 @@
 //! A plain second implementation of the certifier for base prices, for tests.
 //!
-//! It is written from document 01 alone, by the slowest obvious method: every combination of a
+//! It is written from docs/FORMAT.md alone, by the slowest obvious method: every combination of a
 //! book is listed, and every maximum is a maximum over that list. Read the files in this order:
 //!
 //! - `bytes`: big-endian numbers

@@ -42,6 +42,17 @@ pub fn holds(set: usize, k: usize) -> bool {
     (set >> k) & 1 == 1
 }
 
+/// The multipliers of each set of w winners; those of the empty set are zero and stand nowhere.
+fn read_sets(reader: &mut Reader, w: usize) -> Option<Vec<Multipliers>> {
+    let mut sets = vec![Multipliers::default()];
+    for _set in 1..1_usize.checked_shl(u32::try_from(w).ok()?)? {
+        let y = reader.number(4)?;
+        let u = reader.number(8)?;
+        sets.push(Multipliers { y, u });
+    }
+    Some(sets)
+}
+
 impl Sheet {
     /// Reads the fields in their order. The caller has put question 6.
     pub fn read(bytes: &[u8]) -> Option<Sheet> {
@@ -71,12 +82,7 @@ impl Sheet {
 
         let g = reader.signed_64()?;
 
-        let mut sets = vec![Multipliers::default()];
-        for _set in 1..1_usize.checked_shl(u32::try_from(w).ok()?)? {
-            let y = reader.number(4)?;
-            let u = reader.number(8)?;
-            sets.push(Multipliers { y, u });
-        }
+        let sets = read_sets(&mut reader, w)?;
 
         Some(Sheet {
             q,

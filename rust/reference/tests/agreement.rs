@@ -1,4 +1,4 @@
-//! What document 01 wants shown, tried out on random books.
+//! What docs/FORMAT.md lets one expect, tried out on random books.
 
 use generate::{small_book, winning_combinations, Rng};
 use reference::admissible::none_worth_more;
