@@ -1,2 +1,4 @@
 -- The laws that the proofs of this crate cite.
 pub mod Steps
+pub mod Runs
+pub mod Reserving

@@ -14,7 +14,7 @@ use book::layout;
 ghost use mathlib.Core.Path.{_≡_};
 ghost use Rattle.book.specs.Layout.{book-in};
 ghost use Rattle.book.specs.Questions.{version-good, counts-good, tables-good, bids-good, amounts-good, book-refusal};
-ghost use Rattle.questions.specs.Small.{entries-refusal};
+ghost use Rattle.questions.specs.Small.{Laid, entries-refusal};
 
 fn is_version_good(book: &[u8]) -> bool
     ensures { λ r. ⌜ r ≡ version-good (now (book .entry)) ⌝ }
@@ -48,6 +48,7 @@ fn are_tables_good(book: &[u8]) -> bool
 }
 
 fn are_bids_good(book: &[u8]) -> bool
+    requires { ⌜ Laid (now book) ⌝ }
     ensures { λ r. ⌜ r ≡ bids-good (book-in (now (book .entry))) ⌝ }
 {
     let k = layout::kinds(book) as usize;
@@ -59,6 +60,7 @@ fn are_bids_good(book: &[u8]) -> bool
 }
 
 fn are_amounts_good(book: &[u8]) -> bool
+    requires { ⌜ Laid (now book) ⌝ }
     ensures { λ r. ⌜ r ≡ amounts-good (book-in (now (book .entry))) ⌝ }
 {
     let k = layout::kinds(book) as usize;
@@ -69,6 +71,7 @@ fn are_amounts_good(book: &[u8]) -> bool
 
 // The number of the first of questions 3 to 5 that the bytes fail; 0 where there is none.
 fn refusal_by_entries(book: &[u8]) -> u8
+    requires { ⌜ Laid (now book) ⌝ }
     ensures { λ r. ⌜ r ≡ entries-refusal (book-in (now (book .entry))) ⌝ }
 {
     if !are_tables_good(book) {

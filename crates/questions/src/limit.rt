@@ -9,7 +9,7 @@ ghost use Rattle.questions.specs.Small.{Run};
 
 // How many of m bids are a client's.
 fn count_bids(book: &[u8], client: usize, k: usize, m: usize, at: usize) -> usize
-    requires { ⌜ Run k m at ⌝ }
+    requires { ⌜ Run (now book) k m at ⌝ }
     ensures { λ r. ⌜ r ≡ bids-of client (bids-in m k at (now (book .entry))) ⌝ }
 {
     let mut sum: usize = 0;
@@ -25,7 +25,7 @@ fn count_bids(book: &[u8], client: usize, k: usize, m: usize, at: usize) -> usiz
 
 // Question 4's limit: none of n clients has more than eight of m bids.
 pub(crate) fn few_for_each(book: &[u8], n: usize, k: usize, m: usize, at: usize) -> bool
-    requires { ⌜ Run k m at ⌝ }
+    requires { ⌜ Run (now book) k m at ⌝ }
     ensures { λ r. ⌜ r ≡ all-to n (few-bids (bids-in m k at (now (book .entry)))) ⌝ }
 {
     let mut ok = true;
