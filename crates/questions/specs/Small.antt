@@ -2,12 +2,12 @@
 -- that no place overflows and each is read with no test of the length; and what arrays hold. `refusal`, the public one, asks nothing. Cited by the contracts of src/. Assumes nothing: these are definitions.
 use mathlib.Core.Bool.{not, cond}
 use mathlib.Core.Path.{_≡_}
-use mathlib.Core.List.{List}
+use mathlib.Core.List.{List, [], _∷_}
 use Prim.Native.Nat.{ℕ, _+_, _*_, _≤_, _<_}
 use lib.ListN.{length, getD}
-use Rattle.book.specs.Book.{Book}
+use Rattle.book.specs.Book.{Bid, Book}
 use Rattle.book.specs.Layout.{K-of, n-of, m-of, bids-from, kind-here}
-use Rattle.book.specs.Questions.{tables-good, bids-good, amounts-good}
+use Rattle.book.specs.Questions.{bids-of, tables-good, bids-good, amounts-good}
 
 -- the number of the first of questions 3 to 5 that is answered no; 0 where none is
 unfoldable pub entries-refusal : Book → ℕ
@@ -40,3 +40,12 @@ pub record Reserves (bs : List ℕ) (i : ℕ) (xs : List ℕ) : Type 0 where
   pub long : length xs ≡ 4
   pub below : (j : ℕ) → j < i → getD xs j 0 ≡ kind-here (4 + 3 * j) bs .reserve
   pub above : (j : ℕ) → i ≤ j → getD xs j 0 ≡ 0
+
+-- bids that name no client above 6
+unfoldable pub Named : List Bid → Type 0
+Named [] = Unit {0}
+Named (x ∷ xs) = (x .client ≤ 6) × Named xs
+
+-- an array with the number of bids of each client
+unfoldable pub Counted : List Bid → List ℕ → Type 0
+Counted xs cs = (client : ℕ) → client ≤ 6 → getD cs client 0 ≡ bids-of client xs

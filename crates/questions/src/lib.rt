@@ -55,8 +55,10 @@ fn are_bids_good(book: &[u8]) -> bool
     let n = layout::clients(book) as usize;
     let m = layout::bids(book) as usize;
     let from = layout::bids_place(book) as usize;
-    let each = bids::every_bid_good(book, n, k, m, from);
-    flags::both(each, limit::few_for_each(book, n, k, m, from))
+    if !bids::every_bid_good(book, n, k, m, from) {
+        return false;
+    }
+    limit::few_for_each(book, n, k, m, from)
 }
 
 fn are_amounts_good(book: &[u8]) -> bool
