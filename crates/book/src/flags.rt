@@ -1,6 +1,6 @@
 // Tests as values, so that a loop's body has no branch.
 ghost use mathlib.Core.Path.{_≡_};
-ghost use mathlib.Core.Bool.{_&&_, cond, not};
+ghost use mathlib.Core.Bool.{_&&_, cond};
 ghost use Prim.Native.Nat.{_≤_};
 ghost use Rattle.book.specs.Lists.{within as within-range};
 
@@ -20,20 +20,4 @@ pub fn one_if(a: bool) -> usize
     ensures { λ r. ⌜ (r ≡ cond a 1 0) × (r ≤ 1) ⌝ }
 {
     if a { 1 } else { 0 }
-}
-
-// The number of the first of three questions in a row that is answered no.
-pub fn first_no(three: bool, four: bool, five: bool) -> u8
-    ensures { λ r. ⌜ r ≡ cond (not three) 3 (cond (not four) 4 (cond (not five) 5 0)) ⌝ }
-{
-    if !three {
-        return 3;
-    }
-    if !four {
-        return 4;
-    }
-    if !five {
-        return 5;
-    }
-    0
 }

@@ -1,12 +1,12 @@
 -- The step of a loop over a run: what the tests or the sum so far and those of the rest make together stays what the whole makes. One
 -- law for each definition over lists. Cited by the proofs of src/. Assumes nothing.
 use mathlib.Core.Path.{_≡_, sym, ap, _∙_}
-use mathlib.Core.Bool.{Bool, _&&_, and-assoc, and-true, cond}
+use mathlib.Core.Bool.{Bool, _&&_, and-assoc, and-true}
 use mathlib.Core.List.{List, [], _∷_}
 use Prim.Native.Nat.{ℕ, _+_}
 use native.Mathlib.Numerals.{add-one}
 use native.Mathlib.Nat.{add-assoc, add-zero}
-use Rattle.book.specs.Lists.{all, all-to, count, total}
+use Rattle.book.specs.Lists.{all, all-to, total}
 use Rattle.book.specs.Book.{Bid}
 use Rattle.book.specs.Questions.{bids-of, few-bids}
 use lib.Dec.{leb}
@@ -19,14 +19,6 @@ module _ {A : Type 0} (p : A → Bool) where
   pub all-done : (xs : List A) (ok z : Bool) → xs ≡ [] → (ok && all p xs) ≡ z → ok ≡ z
   unfolding all
   all-done xs ok z e q = sym (and-true ok) ∙ (rw e at q)
-
-  pub count-next : (x : A) (xs ys : List A) (s t z : ℕ) → xs ≡ x ∷ ys → t ≡ cond (p x) 1 0 → s + count p xs ≡ z → (s + t) + count p ys ≡ z
-  unfolding count
-  count-next x xs ys s t z e h q = rw (h, add-assoc) (rw e at q)
-
-  pub count-done : (xs : List A) (s z : ℕ) → xs ≡ [] → s + count p xs ≡ z → s ≡ z
-  unfolding count
-  count-done xs s z e q = sym (add-zero s) ∙ (rw e at q)
 
 pub all-to-next : (p : ℕ → Bool) (n : ℕ) (ok t now : Bool) → now ≡ (ok && t) → t ≡ p (n + 1) → ok ≡ all-to n p → now ≡ all-to (n + 1) p
 unfolding all-to

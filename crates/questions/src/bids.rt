@@ -7,7 +7,7 @@ ghost use Rattle.book.specs.Bytes.{bytes-at};
 ghost use Rattle.book.specs.Lists.{all, total};
 ghost use Rattle.book.specs.Layout.{bid-here, bids-in};
 ghost use Rattle.book.specs.Questions.{bid-good};
-ghost use Rattle.questions.specs.Small.{Row, Run};
+ghost use Rattle.questions.specs.Small.{Row, Spot, Run};
 
 // Hours of all kinds together, of the k that stand at a place.
 pub(crate) fn total_hours(book: &[u8], k: usize, at: usize) -> usize
@@ -27,7 +27,7 @@ pub(crate) fn total_hours(book: &[u8], k: usize, at: usize) -> usize
 
 // Question 4 for the bid at a place, but for the limit of eight.
 fn is_bid_good(book: &[u8], n: usize, k: usize, at: usize) -> bool
-    requires { ⌜ Row k (at + 1) ⌝ }
+    requires { ⌜ Spot (now book) k at ⌝ }
     ensures { λ r. ⌜ r ≡ bid-good n (bid-here k at (now (book .entry))) ⌝ }
 {
     let client = bytes::byte_at(book, at) as usize;
@@ -40,7 +40,7 @@ fn is_bid_good(book: &[u8], n: usize, k: usize, at: usize) -> bool
 
 // Question 4 for all m bids, but for the limit of eight.
 pub(crate) fn every_bid_good(book: &[u8], n: usize, k: usize, m: usize, at: usize) -> bool
-    requires { ⌜ Run k m at ⌝ }
+    requires { ⌜ Run (now book) k m at ⌝ }
     ensures { λ r. ⌜ r ≡ all (bid-good n) (bids-in m k at (now (book .entry))) ⌝ }
 {
     let mut ok = true;

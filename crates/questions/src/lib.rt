@@ -14,6 +14,7 @@ use book::layout;
 ghost use mathlib.Core.Path.{_≡_};
 ghost use Rattle.book.specs.Layout.{book-in};
 ghost use Rattle.book.specs.Questions.{version-good, counts-good, tables-good, bids-good, amounts-good, book-refusal};
+ghost use Rattle.questions.specs.Small.{Laid, entries-refusal};
 
 fn is_version_good(book: &[u8]) -> bool
     ensures { λ r. ⌜ r ≡ version-good (now (book .entry)) ⌝ }
@@ -47,17 +48,21 @@ fn are_tables_good(book: &[u8]) -> bool
 }
 
 fn are_bids_good(book: &[u8]) -> bool
+    requires { ⌜ Laid (now book) ⌝ }
     ensures { λ r. ⌜ r ≡ bids-good (book-in (now (book .entry))) ⌝ }
 {
     let k = layout::kinds(book) as usize;
     let n = layout::clients(book) as usize;
     let m = layout::bids(book) as usize;
     let from = layout::bids_place(book) as usize;
-    let each = bids::every_bid_good(book, n, k, m, from);
-    flags::both(each, limit::few_for_each(book, n, k, m, from))
+    if !bids::every_bid_good(book, n, k, m, from) {
+        return false;
+    }
+    limit::few_for_each(book, n, k, m, from)
 }
 
 fn are_amounts_good(book: &[u8]) -> bool
+    requires { ⌜ Laid (now book) ⌝ }
     ensures { λ r. ⌜ r ≡ amounts-good (book-in (now (book .entry))) ⌝ }
 {
     let k = layout::kinds(book) as usize;
@@ -66,7 +71,25 @@ fn are_amounts_good(book: &[u8]) -> bool
     amounts::every_amount_good(book, k, m, from)
 }
 
-// The number of the first of questions 1 to 5 that the bytes fail; 0 where they are a sound book, whatever follows it.
+// The number of the first of questions 3 to 5 that the bytes fail; 0 where there is none.
+fn refusal_by_entries(book: &[u8]) -> u8
+    requires { ⌜ Laid (now book) ⌝ }
+    ensures { λ r. ⌜ r ≡ entries-refusal (book-in (now (book .entry))) ⌝ }
+{
+    if !are_tables_good(book) {
+        return 3;
+    }
+    if !are_bids_good(book) {
+        return 4;
+    }
+    if !are_amounts_good(book) {
+        return 5;
+    }
+    0
+}
+
+// The number of the first of questions 1 to 5 that the bytes fail; 0 where they are a sound book, whatever follows it. What comes after
+// the first 'no' is not looked at.
 pub fn refusal(book: &[u8]) -> u8
     ensures { λ r. ⌜ r ≡ book-refusal (now (book .entry)) ⌝ }
 {
@@ -76,8 +99,5 @@ pub fn refusal(book: &[u8]) -> u8
     if !are_counts_good(book) {
         return 2;
     }
-    let three = are_tables_good(book);
-    let four = are_bids_good(book);
-    let five = are_amounts_good(book);
-    flags::first_no(three, four, five)
+    refusal_by_entries(book)
 }

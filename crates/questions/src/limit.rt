@@ -1,38 +1,43 @@
-// Question 4's limit on how many bids a client has.
-use book::bytes;
+// Question 4's limit on how many bids a client has: one pass counts the bids of each.
 use book::flags;
 ghost use mathlib.Core.Path.{_≡_};
+ghost use Prim.Native.Nat.{_≤_};
 ghost use Rattle.book.specs.Lists.{all-to};
 ghost use Rattle.book.specs.Layout.{bids-in};
-ghost use Rattle.book.specs.Questions.{bids-of, few-bids};
-ghost use Rattle.questions.specs.Small.{Run};
+ghost use Rattle.book.specs.Questions.{few-bids};
+ghost use Rattle.questions.specs.Small.{Run, Named, Counted};
 
-// How many of m bids are a client's.
-fn count_bids(book: &[u8], client: usize, k: usize, m: usize, at: usize) -> usize
-    requires { ⌜ Run k m at ⌝ }
-    ensures { λ r. ⌜ r ≡ bids-of client (bids-in m k at (now (book .entry))) ⌝ }
+// How many of m bids each client has, by its number.
+fn counts_by_client(book: &[u8], k: usize, m: usize, at: usize) -> [usize; 7]
+    requires { ⌜ Run (now book) k m at ⌝ }
+    requires { ⌜ Named (bids-in m k at (now book)) ⌝ }
+    ensures { λ r. ⌜ Counted (bids-in m k at (now (book .entry))) r ⌝ }
 {
-    let mut sum: usize = 0;
+    let mut counts = [0usize; 7];
     let mut place = at;
     let mut bids = m;
     while 0 < bids {
-        sum = sum + flags::one_if(bytes::byte_at(book, place) as usize == client);
+        let client = book[place] as usize;
+        counts[client] = counts[client] + 1;
         place = place + (k + 5);
         bids = bids - 1;
     }
-    sum
+    counts
 }
 
 // Question 4's limit: none of n clients has more than eight of m bids.
 pub(crate) fn few_for_each(book: &[u8], n: usize, k: usize, m: usize, at: usize) -> bool
-    requires { ⌜ Run k m at ⌝ }
+    requires { ⌜ n ≤ 6 ⌝ }
+    requires { ⌜ Run (now book) k m at ⌝ }
+    requires { ⌜ Named (bids-in m k at (now book)) ⌝ }
     ensures { λ r. ⌜ r ≡ all-to n (few-bids (bids-in m k at (now (book .entry)))) ⌝ }
 {
+    let counts = counts_by_client(book, k, m, at);
     let mut ok = true;
     let mut client: usize = 0;
     while client < n {
         client = client + 1;
-        ok = flags::both(ok, count_bids(book, client, k, m, at) <= 8);
+        ok = flags::both(ok, counts[client] <= 8);
     }
     ok
 }

@@ -2,28 +2,33 @@
 use borrow.Author.Needs.{needs}
 use Rattle.book.specs.Layout.{bids-in}
 use mathlib.Core.Path.{_≡_}
-use Prim.Native.Nat.{_+_, _*_, _-_, _≤_}
+use Prim.Native.Nat.{_-_}
 use Rattle.book.specs.Lists.{all}
 use Rattle.book.proofs.Next.{bids-next, bids-none}
 use Rattle.questions.proofs.Steps.{all-next, all-done}
 use Rattle.book.specs.Questions.{bid-good}
+use Rattle.questions.specs.Small.{Run}
+use Rattle.questions.proofs.Runs.{run-here, run-next}
 use mathlib.Core.Bool.{_&&_}
 use Rattle.questions.proofs.bids.every_bid_good.Statement.{statement}
 use Rattle.questions.proofs.bids.every_bid_good.Tie as tie
 
 abbrev Inv-loop : tie.InvT-loop
 Inv-loop book n k m at ok₀ place₀ left₀ ok place left =
-    ((ok && all (bid-good n) (bids-in left k place book)) ≡ all (bid-good n) (bids-in m k at book)) × (place + 260 * left ≤ at + 260 * m)
+    ((ok && all (bid-good n) (bids-in left k place book)) ≡ all (bid-good n) (bids-in m k at book)) × Run book k left place
 
 abbrev μ-loop : tie.MeasureT-loop
 μ-loop book n k m at ok₀ place₀ left₀ ok place left = left
+
+is-bid-good-requires : tie.Need-is-bid-good-requires Inv-loop μ-loop
+is-bid-good-requires c κs = run-here _ _ _ _ (c .loop-test .taken) (c .before .loop .inv .1)
 
 loop-again : tie.Need-loop-again Inv-loop μ-loop
 loop-again c =
     let l = c .before .before .before .loop in (
       all-next (bid-good _) _ _ _ (l .ok) _ _ _ (bids-next _ _ _ _ (c .before .before .loop-test .taken)) (c .both .ensures)
           (c .before .is-bid-good .ensures) (l .inv .0),
-      search needs,
+      run-next _ _ _ _ (c .before .before .loop-test .taken) (l .inv .1),
     )
 
 returns : tie.Need-returns Inv-loop μ-loop
@@ -36,7 +41,7 @@ every-bid-good-spec =
     Inv-loop
     μ-loop
     (λ c. search needs)
-    (λ c κs. search needs)
+    is-bid-good-requires
     (λ c κs. search needs)
     (λ c. search needs)
     (λ c. search needs)
