@@ -94,6 +94,14 @@ impl Example {
     pub fn bytes(&self) -> Vec<u8> {
         write::input(&self.book, &self.sheet)
     }
+
+    /// As many inputs at random out of all that come from the example, which is the first of them.
+    pub fn some_inputs(&self, rng: &mut Rng, count: usize) -> Vec<Input> {
+        let mut all = inputs(rng, self);
+        rng.shuffle(&mut all[1..]);
+        all.truncate(count);
+        all
+    }
 }
 
 /// Inputs that differ from an example, gathered one change at a time.
