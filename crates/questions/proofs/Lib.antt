@@ -3,3 +3,4 @@ pub mod Steps
 pub mod Runs
 pub mod Reserving
 pub mod Counting
+pub mod Asking

@@ -1,12 +1,11 @@
--- The step of a loop over a run: what the tests or the sum so far and those of the rest make together stays what the whole makes. One
--- law for each definition over lists. Cited by the proofs of src/. Assumes nothing.
+-- The step of a loop over a run: what the tests so far and those of the rest make together stays what the whole makes. Cited by the
+-- proofs of src/. Assumes nothing.
 use mathlib.Core.Path.{_≡_, sym, ap, _∙_}
 use mathlib.Core.Bool.{Bool, _&&_, and-assoc, and-true}
 use mathlib.Core.List.{List, [], _∷_}
 use Prim.Native.Nat.{ℕ, _+_}
 use native.Mathlib.Numerals.{add-one}
-use native.Mathlib.Nat.{add-assoc, add-zero}
-use Rattle.book.specs.Lists.{all, all-to, total}
+use Rattle.book.specs.Lists.{all, all-to}
 use Rattle.book.specs.Book.{Bid}
 use Rattle.book.specs.Questions.{bids-of, few-bids}
 use lib.Dec.{leb}
@@ -28,11 +27,3 @@ all-to-next p n ok t now e h q = rw (e, h, q, add-one)
 pub few-count : (xs : List Bid) (c n : ℕ) → n ≡ bids-of c xs → leb n 8 ≡ few-bids xs c
 unfolding few-bids
 few-count xs c n e = ap (λ (k : ℕ). leb k 8) e
-
-pub total-next : (x : ℕ) (xs ys : List ℕ) (s t z : ℕ) → xs ≡ x ∷ ys → t ≡ x → s + total xs ≡ z → (s + t) + total ys ≡ z
-unfolding total
-total-next x xs ys s t z e h q = rw (h, add-assoc) (rw e at q)
-
-pub total-done : (xs : List ℕ) (s z : ℕ) → xs ≡ [] → s + total xs ≡ z → s ≡ z
-unfolding total
-total-done xs s z e q = sym (add-zero s) ∙ (rw e at q)

@@ -1,5 +1,6 @@
 -- What the private functions ask of their caller and tell it: counts and places as a book's bytes give them once its counts are good, so
--- that no place overflows and each is read with no test of the length; and what arrays hold. `refusal`, the public one, asks nothing. Cited by the contracts of src/. Assumes nothing: these are definitions.
+-- that no place overflows and each is read with no test of the length; and what arrays hold. `refusal`, the public one, asks
+-- nothing. Cited by the contracts of src/. Assumes nothing: these are definitions.
 use mathlib.Core.Bool.{not, cond}
 use mathlib.Core.Path.{_≡_}
 use mathlib.Core.List.{List, [], _∷_}

@@ -1,5 +1,6 @@
 // Question 5: amounts against the reserves of their hours. The reserves of the kinds are read once; the loop over the bids moves a place
 // on and counts down what is left.
+use crate::numbers;
 use book::bytes;
 use book::flags;
 ghost use mathlib.Core.Path.{_≡_};
@@ -51,7 +52,7 @@ fn is_amount_good(book: &[u8], k: usize, at: usize, reserves: &[u16; 4]) -> bool
     requires { ⌜ Reserves (now book) k (now reserves) ⌝ }
     ensures { λ r. ⌜ r ≡ reserves-met (kinds-in k 4 (now (book .entry))) (bid-here k at (now (book .entry))) ⌝ }
 {
-    let amount = bytes::u32_at(book, at + (k + 1)) as u64;
+    let amount = numbers::four_in(book, at + (k + 1));
     reserves_of_bid(book, k, at, reserves) <= amount
 }
 

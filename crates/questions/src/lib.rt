@@ -6,6 +6,7 @@
 mod amounts;
 mod bids;
 mod limit;
+mod numbers;
 mod tables;
 
 use book::bytes;

@@ -8,9 +8,9 @@ use Rattle.questions.proofs.amounts.is_amount_good.Tie as tie
 
 returns : tie.Need-returns
 unfolding reserves-met bid-here
-returns c = rw (← c .before .u32-at .ensures, ← c .reserves-of-bid .ensures)
+returns c = rw (← c .before .four-in .ensures, ← c .reserves-of-bid .ensures)
 
 pub is-amount-good-spec : {M : Type 1} → statement M
 is-amount-good-spec =
     tie.close
-    (tie.spec (λ c. search needs) (λ c. search needs) (λ c κs. search needs) (λ c. search needs) (λ c κs. search needs) returns)
+    (tie.spec (λ c. search needs) (λ c. search needs) (λ c κs. search needs) (λ c κs. search needs) returns)

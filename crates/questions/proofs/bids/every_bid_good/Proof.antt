@@ -14,14 +14,14 @@ use Rattle.questions.proofs.bids.every_bid_good.Statement.{statement}
 use Rattle.questions.proofs.bids.every_bid_good.Tie as tie
 
 abbrev Inv-loop : tie.InvT-loop
-Inv-loop book n k m at ok₀ place₀ left₀ ok place left =
+Inv-loop book n k m at least ok₀ place₀ left₀ ok place left =
     ((ok && all (bid-good n) (bids-in left k place book)) ≡ all (bid-good n) (bids-in m k at book)) × Run book k left place
 
 abbrev μ-loop : tie.MeasureT-loop
-μ-loop book n k m at ok₀ place₀ left₀ ok place left = left
+μ-loop book n k m at least ok₀ place₀ left₀ ok place left = left
 
 is-bid-good-requires : tie.Need-is-bid-good-requires Inv-loop μ-loop
-is-bid-good-requires c κs = run-here _ _ _ _ (c .loop-test .taken) (c .before .loop .inv .1)
+is-bid-good-requires c κs = (run-here _ _ _ _ (c .loop-test .taken) (c .before .loop .inv .1), c .before .before .least-with-hours .ensures)
 
 loop-again : tie.Need-loop-again Inv-loop μ-loop
 loop-again c =
@@ -40,6 +40,7 @@ every-bid-good-spec =
     (tie.spec
     Inv-loop
     μ-loop
+    (λ c κs. search needs)
     (λ c. search needs)
     is-bid-good-requires
     (λ c κs. search needs)
