@@ -1,18 +1,14 @@
 -- The steps of loops that test or add up one number after another, over an index from 0 or over the sets from 1. Cited by the proofs of
 -- the functions with a loop, here and in crates/certificate, and by crates/sheet. Assumes nothing.
 use mathlib.Core.Path.{_≡_, refl, sym, ap, _∙_}
-use mathlib.Core.Bool.{Bool, true, cond, _&&_}
-use mathlib.Core.Logic.{_≢_}
-use Prim.Native.Nat.{ℕ, suc, _+_, _*_, _-_, _/_, _%_, _^_, _≤_}
+use mathlib.Core.Bool.{Bool, true, _&&_}
+use Prim.Native.Nat.{ℕ, suc, _+_, _*_, _-_, _%_, _^_, _≤_}
 use native.Mathlib.Nat.{mod-eq-of-lt, one-mul, le-antisymm}
 use native.Mathlib.Numerals.{add-one}
 use native.Mathlib.Omega.{arith}
-use lib.Bits.{bitAnd}
 use lib.Pow.{pow-mono}
-use borrow.Author.Tests.{eq-eqb, ne-eqb}
 use Rattle.sets.specs.Sums.{sum}
-use Rattle.sets.specs.Sets.{has, over-sets}
-use Rattle.sets.proofs.Members.{and-mask}
+use Rattle.sets.specs.Sets.{over-sets}
 use Rattle.pricing.specs.Questions.{every, every-set}
 
 -- THE END OF THE SETS
@@ -78,12 +74,3 @@ sum-before-more f n l e g =
 pub sum-before-end : (f : ℕ → ℕ) (w : ℕ) {n s : ℕ} → n ≤ 2 ^ w → 2 ^ w ≤ n → s ≡ sum-before n f → s ≡ over-sets w f
 unfolding sum-before over-sets
 sum-before-end f w a b e = e ∙ ap (λ (k : ℕ). sum (k - 1) (λ i. f (suc i))) (le-antisymm a b)
-
--- WHAT A MEMBER CARRIES, by the bit that is shifted down and masked
-pub shared : (s k n : ℕ) → bitAnd (s / 2 ^ k) 1 ≡ 1 → n ≡ cond (has s k) n 0
-unfolding has
-shared s k n e = ap (λ (b : Bool). cond b n 0) (sym (eq-eqb (s / 2 ^ k % 2) 1 (sym (and-mask s k) ∙ e)))
-
-pub not-shared : (s k n : ℕ) → bitAnd (s / 2 ^ k) 1 ≢ 1 → 0 ≡ cond (has s k) n 0
-unfolding has
-not-shared s k n e = ap (λ (b : Bool). cond b n 0) (sym (ne-eqb (s / 2 ^ k % 2) 1 (λ h. e (and-mask s k ∙ h))))

@@ -1,6 +1,6 @@
 -- Which numbers are members of a set: the empty set, the sets of one, the set of those that pass a test, and that a set is its members.
 -- Cited by the laws of sums over sets and by whoever makes a set. Everything goes by the lowest bit and the half. Assumes nothing.
-use mathlib.Core.Path.{_≡_, refl, sym, ap, _∙_}
+use mathlib.Core.Path.{_≡_, refl, sym, ap, fun-ext, _∙_}
 use mathlib.Core.Bool.{Bool, true, false, cond, true≢false}
 use mathlib.Core.Logic.{_≢_}
 use Prim.Native.Nat.{ℕ, zero, suc, _+_, _*_, _/_, _%_, _^_, _≤_, _<_}
@@ -11,12 +11,21 @@ use lib.Bits as Bits
 use lib.Bits.{bitAnd}
 use lib.Dec.{eqb, eqb·zero-suc, eqb·suc-zero, eqb·suc-suc}
 use lib.Pow.{pow-pos, pow-mono, pow-lt, shr-shr}
-use borrow.Author.Tests.{eqb-true, eqb-false}
+use borrow.Author.Tests.{eqb-true, eqb-false, eq-eqb, ne-eqb}
 use Rattle.sets.specs.Sets.{has, single, set-of}
 
 -- what `(s >> k) & 1` computes
 pub and-mask : (s k : ℕ) → bitAnd (s / 2 ^ k) 1 ≡ s / 2 ^ k % 2
 and-mask s k = Bits.and-mask (s / 2 ^ k) 1
+
+-- a number where k is a member, and 0 where it is not, by the bit that is shifted down and masked
+pub bit-held : (s k n : ℕ) → bitAnd (s / 2 ^ k) 1 ≡ 1 → n ≡ cond (has s k) n 0
+unfolding has
+bit-held s k n e = ap (λ (b : Bool). cond b n 0) (sym (eq-eqb (s / 2 ^ k % 2) 1 (sym (and-mask s k) ∙ e)))
+
+pub bit-none : (s k n : ℕ) → bitAnd (s / 2 ^ k) 1 ≢ 1 → 0 ≡ cond (has s k) n 0
+unfolding has
+bit-none s k n e = ap (λ (b : Bool). cond b n 0) (sym (ne-eqb (s / 2 ^ k % 2) 1 (λ h. e (and-mask s k ∙ h))))
 
 -- THE LOWEST BIT, AND THE HALF
 pub has-low : (s : ℕ) → has s 0 ≡ eqb (s % 2) 1
@@ -90,6 +99,18 @@ has-set-of (suc w) p zero l = has-low (set-of (suc w) p) ∙ bit-low (p 0) (set-
 has-set-of (suc w) p (suc k) l =
     has-half (set-of (suc w) p) k ∙ ap (λ (z : ℕ). has z k) (bit-rest (p 0) (set-of w (λ i. p (suc i))))
     ∙ has-set-of w (λ i. p (suc i)) k (le-of-suc-le-suc l)
+
+-- one member more
+pub set-of-add : (w x : ℕ) (p q : ℕ → Bool) → x < w → p x ≡ false → q x ≡ true → ((k : ℕ) → k ≢ x → q k ≡ p k) → set-of w p + 2 ^ x ≡ set-of w q
+unfolding set-of
+set-of-add zero x p q l a b same = absurd (omega arith)
+set-of-add (suc w) zero p q l a b same =
+    let tails : set-of w (λ k. q (suc k)) ≡ set-of w (λ k. p (suc k)) = ap (λ (f : ℕ → Bool). set-of w f) (fun-ext (λ k. same (suc k) (λ e. omega arith))) in
+    rw (a, b) (omega (arith, tails))
+set-of-add (suc w) (suc x) p q l a b same =
+    let heads : q 0 ≡ p 0 = same 0 (λ e. omega arith) in
+    let tails = set-of-add w x (λ k. p (suc k)) (λ k. q (suc k)) (le-of-suc-le-suc l) a b (λ k n. same (suc k) (λ e. n (omega arith))) in
+    rw (heads) (omega (arith, tails, pow-suc 2 x))
 
 -- THE SETS OF ONE
 power-even : (j : ℕ) → 2 ^ suc j % 2 ≡ 0

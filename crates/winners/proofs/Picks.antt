@@ -1,62 +1,26 @@
 -- Which clients a set picks from a list, in a loop's steps, and the discard byte that says the same. Cited by the proofs of src/lists.rt
 -- and src/table.rt. Assumes nothing.
-use mathlib.Core.Path.{_≡_, sym, ap, ap₂, fun-ext, _∙_}
-use mathlib.Core.Bool.{Bool, true, false, _&&_, _||_, cond, false≢true}
+use mathlib.Core.Path.{_≡_, refl, sym, ap, fun-ext, _∙_}
+use mathlib.Core.Bool.{Bool, true, false, _&&_, _||_, cond, and-false, or-true, or-false, false≢true}
 use mathlib.Core.List.{List, [], _∷_}
 use mathlib.Core.Logic.{⊎-elim, _≢_}
-use Prim.Native.Nat.{ℕ, zero, suc, _+_, _*_, _-_, _/_, _^_, _≤_, _<_}
+use Prim.Native.Nat.{ℕ, zero, suc, _+_, _-_, _^_, _≤_, _<_}
 use native.Mathlib.Numerals.{add-one}
-use native.Mathlib.Nat.{le-of-suc-le-suc}
+use native.Mathlib.Nat.{le-trans, le-of-suc-le-suc}
 use native.Mathlib.Decide.{decLt}
 use native.Mathlib.Omega.{arith}
-use borrow.Author.Tests.{ltb-true, leb-true}
-use lib.Bits.{bitAnd}
+use borrow.Author.Tests.{ltb-true, leb-true, le-leb, eq-eqb, ne-eqb}
 use lib.Dec.{leb, ltb, eqb}
 use lib.ListN.{length}
 use lib.Pow.{pow-mono}
 use Rattle.sets.specs.Sets.{has, set-of}
-use Rattle.sets.proofs.Members.{and-mask, has-zero, has-set-of, set-of-lt, has-above}
+use Rattle.sets.proofs.Members.{has-zero, has-set-of, set-of-lt, set-of-add, has-above}
 use Rattle.market.specs.Market.{at}
 use Rattle.market.proofs.Bools.{either, and-parts}
 use Rattle.combinations.specs.Greatest.{discarded}
 use Rattle.combinations.specs.Surplus.{any, picked}
 use Rattle.combinations.proofs.Surplus.{picked-true}
 use Rattle.winners.specs.Surpluses.{rising-to}
-
--- one place more of the list
-pub any-next : (p : ℕ → Bool) (j : ℕ) (found t now : Bool) → now ≡ (found || t) → t ≡ p j → found ≡ any j p → now ≡ any (j + 1) p
-unfolding any
-any-next p j found t now n e f = rw (add-one j, n, e, f)
-
-pub picks-next : (cs : List ℕ) (L c j x : ℕ) (held same : Bool) (t : Bool) → t ≡ (held && same) → held ≡ eqb (bitAnd (L / 2 ^ j) 1) 1 → same ≡ eqb x c → at cs j ≡ x
-    → t ≡ (has L j && eqb (at cs j) c)
-unfolding has
-picks-next cs L c j x held same t e h s a = rw (e, h, s, a, and-mask)
-
-pub picks-done : (cs : List ℕ) (L c j : ℕ) (found : Bool) → j ≡ length cs → found ≡ any j (λ j. has L j && eqb (at cs j) c) → found ≡ picked cs L c
-unfolding picked
-picks-done cs L c j found e f = f ∙ ap (λ (n : ℕ). any n (λ j. has L j && eqb (at cs j) c)) e
-
--- the byte is built from the last client down
-pub byte-next : (n c : ℕ) (p : ℕ → Bool) (byte bit now : ℕ) → 0 < c → c ≤ n → byte ≡ set-of (n - c) (λ j. p (c + j)) → bit ≡ cond (p (c - 1)) 1 0 → now ≡ bit + 2 * byte
-    → now ≡ set-of (n - (c - 1)) (λ j. p (c - 1 + j))
-unfolding set-of
-byte-next n c p byte bit now l h b e m =
-    let k : n - (c - 1) ≡ suc (n - c) = omega arith in
-    rw (k, m, e, b)
-    (ap₂ (λ (x y : ℕ). x + 2 * y) (ap (λ (i : ℕ). cond (p i) 1 0) (omega arith))
-    (ap (λ (q : ℕ → Bool). set-of (n - c) q) (fun-ext (λ j. ap p (omega arith)))))
-
-pub byte-start : (n : ℕ) (p : ℕ → Bool) → 0 ≡ set-of (n - n) p
-unfolding set-of
-byte-start n p = let z : n - n ≡ 0 = omega arith in rw z
-
-pub byte-done : (n c : ℕ) (p : ℕ → Bool) (byte : ℕ) → c ≤ 0 → byte ≡ set-of (n - c) (λ j. p (c + j)) → byte ≡ set-of n p
-byte-done n c p byte l b = b ∙ ap₂ (λ (w : ℕ) (q : ℕ → Bool). set-of w q) (omega arith) (fun-ext (λ j. ap p (omega arith)))
-
--- the bit of client c
-pub bit-of : (cs : List ℕ) (L c bit : ℕ) (t : Bool) → 0 < c → t ≡ picked cs L c → bit ≡ cond t 1 0 → bit ≡ cond (picked cs L (suc (c - 1))) 1 0
-bit-of cs L c bit t l e b = b ∙ ap (λ (u : Bool). cond u 1 0) e ∙ ap (λ (i : ℕ). cond (picked cs L i) 1 0) (omega arith)
 
 -- clients that rise lie between
 pub rising-range : (n c : ℕ) (xs : List ℕ) → rising-to n c xs ≡ true → (j : ℕ) → j < length xs → (c < at xs j) × (at xs j ≤ n)
@@ -71,6 +35,76 @@ rising-range n c (x ∷ xs) t (suc j) l =
     let q = and-parts (ltb c x) (leb x n) (p .0) in
     let r = rising-range n x xs (p .1) j (le-of-suc-le-suc l) in
     (omega (arith, ltb-true c x (q .0)), r .1)
+
+-- and each is before those after it
+rising-apart : (n c : ℕ) (xs : List ℕ) → rising-to n c xs ≡ true → (i j : ℕ) → i < j → j < length xs → at xs i < at xs j
+unfolding rising-to
+rising-apart n c [] t i j k l = absurd (omega arith)
+rising-apart n c (x ∷ xs) t i zero k l = absurd (omega arith)
+rising-apart n c (x ∷ xs) t zero (suc j) k l = rising-range n x xs (and-parts (ltb c x && leb x n) _ t .1) j (le-of-suc-le-suc l) .0
+rising-apart n c (x ∷ xs) t (suc i) (suc j) k l = rising-apart n x xs (and-parts (ltb c x && leb x n) _ t .1) i j (le-of-suc-le-suc k) (le-of-suc-le-suc l)
+
+-- a list that rises to n rises to any more
+pub rising-more : (n m c : ℕ) (xs : List ℕ) → n ≤ m → rising-to n c xs ≡ true → rising-to m c xs ≡ true
+unfolding rising-to
+rising-more n m c [] h t = t
+rising-more n m c (x ∷ xs) h t =
+    let p = and-parts (ltb c x && leb x n) _ t in
+    let q = and-parts (ltb c x) (leb x n) (p .0) in
+    rw (q .0, le-leb x m (le-trans (leb-true x n (q .1)) h)) (rising-more n m x xs h (p .1))
+
+-- no place that passes
+any-none : (n : ℕ) (p : ℕ → Bool) → ((i : ℕ) → i < n → p i ≡ false) → any n p ≡ false
+unfolding any
+any-none zero p h = refl
+any-none (suc n) p h = rw (h n (omega arith), any-none n p (λ i l. h i (omega arith)))
+
+module _ (cs : List ℕ) (L : ℕ) where
+  -- client k + 1 stands at one of the first j places and is picked
+  abbrev pub early : (j k : ℕ) → Bool
+  early j k = any j (λ i. has L i && eqb (at cs i) (suc k))
+
+  -- the byte of no place, and of all
+  pub byte-none : 0 ≡ set-of 6 (early 0)
+  unfolding any set-of
+  byte-none = refl
+
+  pub byte-all : (j byte : ℕ) → j ≡ length cs → byte ≡ set-of 6 (early j) → byte ≡ set-of 6 (λ k. picked cs L (suc k))
+  unfolding picked
+  byte-all j byte e b = b ∙ ap (λ (n : ℕ). set-of 6 (early n)) e
+
+  -- one place more
+  early-next : (j k : ℕ) → early (j + 1) k ≡ (early j k || (has L j && eqb (at cs j) (suc k)))
+  unfolding any
+  early-next j k = rw (add-one j)
+
+  module _ (j : ℕ) (t : rising-to 6 0 cs ≡ true) (l : j < length cs) where
+    later : (k : ℕ) → k ≢ at cs j - 1 → early (j + 1) k ≡ early j k
+    later k n =
+        let r = rising-range 6 0 cs t j l in
+        early-next j k ∙ rw (ne-eqb (at cs j) (suc k) (λ q. n (omega arith)), and-false (has L j)) (or-false (early j k))
+
+    absent : early j (at cs j - 1) ≡ false
+    absent =
+        let r = rising-range 6 0 cs t j l in
+        any-none j _ (λ i h. rw (ne-eqb (at cs i) (suc (at cs j - 1)) (λ q. omega (arith, rising-apart 6 0 cs t i j h l))) (and-false (has L i)))
+
+    present : has L j ≡ true → early (j + 1) (at cs j - 1) ≡ true
+    present y =
+        let r = rising-range 6 0 cs t j l in
+        early-next j (at cs j - 1) ∙ rw (y, eq-eqb (at cs j) (suc (at cs j - 1)) (omega arith)) (or-true (early j (at cs j - 1)))
+
+  pub byte-next : (j x bit byte now : ℕ) → rising-to 6 0 cs ≡ true → j < length cs → at cs j ≡ x → bit ≡ cond (has L j) (2 ^ (x - 1)) 0 → byte ≡ set-of 6 (early j)
+      → now ≡ byte + bit → now ≡ set-of 6 (early (j + 1))
+  byte-next j x bit byte now t l e eb b m =
+      let r = rising-range 6 0 cs t j l in
+      ⊎-elim
+      (λ (y : has L j ≡ true). let more : bit ≡ 2 ^ (at cs j - 1) = (rw y at eb) ∙ ap (λ (i : ℕ). 2 ^ (i - 1)) (sym e) in
+      omega (arith, more, set-of-add 6 (at cs j - 1) (early j) (early (j + 1)) (omega arith) (absent j t l) (present j t l y) (later j t l)))
+      (λ (y : has L j ≡ false). let none : bit ≡ 0 = rw y at eb in
+      let same : set-of 6 (early (j + 1)) ≡ set-of 6 (early j) = ap (λ (f : ℕ → Bool). set-of 6 f) (fun-ext (λ k. early-next j k ∙ rw y (or-false (early j k)))) in
+      omega (arith, none, same))
+      (either (has L j))
 
 -- a client that is nowhere in the list is not picked
 unpicked : (cs : List ℕ) (L c : ℕ) → ((j : ℕ) → j < length cs → at cs j ≢ c) → picked cs L c ≡ false

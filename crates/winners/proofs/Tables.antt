@@ -19,7 +19,7 @@ use Rattle.combinations.proofs.Greatest.{greatest-all}
 use Rattle.winners.specs.Needs.{Listed}
 use Rattle.winners.specs.Surpluses.{surplus-table}
 use Rattle.sets.proofs.Filled.{Filled}
-use Rattle.winners.proofs.Picks.{byte-picks, picked-none}
+use Rattle.winners.proofs.Picks.{rising-more, byte-picks, picked-none}
 
 -- 1 << w as the number of sets
 pub shl-one : (w : ℕ) → w ≤ 6 → (1 * 2 ^ w % 2 ^ 64 ≡ 2 ^ w) × (1 ≤ 2 ^ w) × (2 ^ w ≤ 64)
@@ -32,12 +32,12 @@ surplus-empty bs cs = rw (greatest-all bs, fun-ext (picked-none cs)) (omega arit
 
 -- a set's entry
 pub surplus-set : (bs clients : List ℕ) (count L v u d e : ℕ) → Listed bs clients count → v ≡ greatest (book-in bs) 0
-    → d ≡ set-of (n-of bs) (λ j. picked (take count clients) L (suc j)) → u ≡ greatest (book-in bs) d → e ≡ v - u
+    → d ≡ set-of 6 (λ j. picked (take count clients) L (suc j)) → u ≡ greatest (book-in bs) d → e ≡ v - u
     → e ≡ surplus (book-in bs) (take count clients) L
 unfolding surplus greatest
 surplus-set bs clients count L v u d e h ev ed eu ee =
     ee ∙ ap₂ (λ (a b : ℕ). a - b) ev (eu ∙ ap (λ (x : ℕ). greatest-without (book-in bs) (discarded x)) ed
-    ∙ ap (λ (out : ℕ → Bool). greatest-without (book-in bs) out) (fun-ext (byte-picks (n-of bs) (take count clients) L (h .rising))))
+    ∙ ap (λ (out : ℕ → Bool). greatest-without (book-in bs) out) (fun-ext (byte-picks 6 (take count clients) L (rising-more (n-of bs) 6 0 (take count clients) (h .sound .n-high) (h .rising)))))
 
 -- the array filled up to the number of sets is the table
 pub table-done : (bs clients : List ℕ) (count end : ℕ) (xs : List ℕ) → end ≡ 2 ^ count → Filled 64 (surplus (book-in bs) (take count clients)) end xs

@@ -1,10 +1,10 @@
-// Sets of a list of clients: which clients a set's number picks, and the discard byte that they make.
+// Sets of a list of clients: whether the list rises, and the discard byte of the clients that a set's number picks.
 use book::flags;
 ghost use mathlib.Core.Path.{_≡_};
-ghost use mathlib.Core.Bool.{_||_};
-ghost use Prim.Native.Nat.{suc, _≤_};
+ghost use mathlib.Core.Bool.{true, cond};
+ghost use Prim.Native.Nat.{suc, _-_, _^_, _≤_, _<_};
 ghost use lib.ListN.{take};
-ghost use Rattle.sets.specs.Sets.{set-of};
+ghost use Rattle.sets.specs.Sets.{has, set-of};
 ghost use Rattle.combinations.specs.Surplus.{picked};
 ghost use Rattle.winners.specs.Surpluses.{rising-to};
 
@@ -25,38 +25,28 @@ pub(crate) fn is_rising(clients: [u8; 6], count: usize, n: usize) -> bool
     ok
 }
 
-fn one_of(a: bool, b: bool) -> bool
-    ensures { λ r. ⌜ r ≡ (a || b) ⌝ }
+// The bit of a client in a discard byte, where the set holds the client's place.
+fn bit_of(set: usize, j: usize, client: usize) -> usize
+    requires { ⌜ (j < 6) × (1 ≤ client) × (client ≤ 6) ⌝ }
+    ensures { λ r. ⌜ (r ≡ cond (has set j) (2 ^ (client - 1)) 0) × (r ≤ 32) ⌝ }
 {
-    if a { true } else { b }
-}
-
-// Whether the set picks the client from the first of the list: bit j of its number stands for the j-th.
-fn is_picked(clients: [u8; 6], count: usize, set: usize, client: usize) -> bool
-    requires { ⌜ count ≤ 6 ⌝ }
-    ensures { λ r. ⌜ r ≡ picked (take count clients) set client ⌝ }
-{
-    let mut found = false;
-    let mut j: usize = 0;
-    while j < count {
-        let held = (set >> j) & 1 == 1;
-        let same = clients[j] as usize == client;
-        found = one_of(found, flags::both(held, same));
-        j += 1;
+    if (set >> j) & 1 == 1 {
+        1 << (client - 1)
+    } else {
+        0
     }
-    found
 }
 
-// The discard byte of the clients that the set picks, of n: bit 0 is client 1.
-pub(crate) fn discard_of(clients: [u8; 6], count: usize, set: usize, n: usize) -> u8
-    requires { ⌜ (count ≤ 6) × (n ≤ 6) ⌝ }
-    ensures { λ r. ⌜ r ≡ set-of n (λ j. picked (take count clients) set (suc j)) ⌝ }
+// The discard byte of the clients that the set picks from the list: bit j of its number stands for the j-th. Bit 0 of the byte is client 1.
+pub(crate) fn discard_of(clients: [u8; 6], count: usize, set: usize) -> u8
+    requires { ⌜ (count ≤ 6) × (rising-to 6 0 (take count clients) ≡ true) ⌝ }
+    ensures { λ r. ⌜ r ≡ set-of 6 (λ j. picked (take count clients) set (suc j)) ⌝ }
 {
     let mut byte: usize = 0;
-    let mut client = n;
-    while 0 < client {
-        byte = flags::one_if(is_picked(clients, count, set, client)) + 2 * byte;
-        client = client - 1;
+    let mut j: usize = 0;
+    while j < count {
+        byte = byte + bit_of(set, j, clients[j] as usize);
+        j += 1;
     }
     byte as u8
 }

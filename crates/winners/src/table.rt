@@ -32,12 +32,11 @@ fn filled(
     requires { ⌜ Prepared (now book) (now weights) (now links) (now most) ⌝ }
     ensures { λ r. ⌜ r ≡ surplus-table (now (book .entry)) clients count ⌝ }
 {
-    let n = layout::clients(book) as usize;
     let end: usize = 1 << count;
     let mut sigma = [0u64; 64];
     let mut set: usize = 1;
     while set < end {
-        let discard = lists::discard_of(clients, count, set, n);
+        let discard = lists::discard_of(clients, count, set);
         sigma[set] = numbers::excess(v, value::value_by(book, discard, weights, links, most));
         set += 1;
     }
