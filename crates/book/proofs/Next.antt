@@ -2,9 +2,8 @@
 -- place on and counts down what is left steps by these. Also how long a run is, and where its i-th stands. Cited by the proofs of src/
 -- and by the layers above. Assumes nothing.
 use mathlib.Core.Path.{_≡_, refl, ap, _∙_}
-use mathlib.Core.List.{List, [], _∷_, _++_}
+use mathlib.Core.List.{List, [], _∷_}
 use Prim.Native.Nat.{ℕ, zero, suc, _+_, _-_, _≤_, _<_}
-use native.Mathlib.Numerals.{add-one}
 use native.Mathlib.Omega.{arith}
 use lib.ListN.{length}
 use Rattle.book.specs.Bytes.{byte, bytes-at}
@@ -42,15 +41,6 @@ pub bids-length : (t k at : ℕ) (bs : List ℕ) → length (bids-in t k at bs) 
 unfolding bids-in
 bids-length zero k at bs = refl
 bids-length (suc t) k at bs = ap suc (bids-length t k (at + (k + 5)) bs)
-
--- one byte more at a run's end
-pub bytes-more : (t at : ℕ) (bs : List ℕ) → bytes-at (t + 1) at bs ≡ bytes-at t at bs ++ (byte (at + t) bs ∷ [])
-unfolding bytes-at
-bytes-more zero at bs = ap (λ (p : ℕ). byte p bs ∷ []) (omega arith)
-bytes-more (suc t) at bs =
-    rw (add-one (suc t))
-    (ap (λ (xs : List ℕ). byte at bs ∷ xs)
-    (rw (add-one t) at (bytes-more t (at + 1) bs) ∙ ap (λ (p : ℕ). bytes-at t (at + 1) bs ++ (byte p bs ∷ [])) (omega arith)))
 
 -- an empty run
 pub bytes-none : (t at : ℕ) (bs : List ℕ) → t ≤ 0 → bytes-at t at bs ≡ []

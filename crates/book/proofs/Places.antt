@@ -8,7 +8,6 @@ use native.Mathlib.Omega.{arith}
 use mathlib.Core.Bool.{false}
 use lib.Dec.{eqb}
 use lib.ListN.{length, getD, length-map, List·getD-eq-default}
-use lib.Seq.{ext-getD}
 use Rattle.book.specs.Bytes.{byte, bytes-at}
 use Rattle.book.specs.Places.{Bid-place}
 use Rattle.book.specs.Book.{Kind, Bid, no-bid, bid-at, client-of, clients, standing, supplies, reserves-of}
@@ -143,12 +142,3 @@ module _ (bs : List ℕ) (i : ℕ) where
     reserves = sym (ap (λ (x : Bid). reserves-of (x .hours) (book-in bs .kinds)) e);
     amount = sym (ap (λ (x : Bid). x .amount) e);
   }
-
--- the hours that stand at a bid's place are the bid's
-pub place-hours : (bs : List ℕ) (i at : ℕ) → 1 ≤ i → i ≤ m-of bs → Bid-place bs i at → bytes-at (K-of bs) (at + 1) bs ≡ bid-at (book-in bs) i .hours
-unfolding bid-here
-place-hours bs i at l h p =
-    let e = bytes-length (K-of bs) (at + 1) bs in
-    ext-getD 0 _ _
-    (e ∙ sym (ap (λ (x : Bid). length (x .hours)) (bid-at-stands bs i l h) ∙ bytes-length (K-of bs) _ bs))
-    (λ k m. bytes-entry (K-of bs) (at + 1) k bs 0 (omega (arith, e)) ∙ p .hours k (omega (arith, e)))

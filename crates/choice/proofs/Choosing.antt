@@ -10,10 +10,10 @@ use borrow.Author.Tests.{leb-true}
 use lib.Dec.{leb, ltb}
 use native.Mathlib.Omega.{arith}
 use lib.ListN.{length, take}
-use Rattle.book.specs.Book.{Book, Bid, bid-at, client-of, clients, standing, supplies}
+use Rattle.book.specs.Book.{Book, Bid, bid-at, client-of, clients, standing}
 use Rattle.book.specs.Layout.{K-of, n-of, m-of, bid-here, book-in}
 use Rattle.book.proofs.Next.{bytes-length}
-use Rattle.book.proofs.Places.{bid-at-stands, bids-count, clients-count, supplies-count}
+use Rattle.book.proofs.Places.{bid-at-stands, bids-count, clients-count}
 use Rattle.hours.specs.Four.{four}
 use Rattle.hours.proofs.Fours.{four-take, less-take}
 use Rattle.market.specs.Market.{at, fits, less}
@@ -77,10 +77,6 @@ follows-code bs k m n i c owner ls few ek em en eo =
     (same-where (leb 1 i && leb i (m-of bs)) _ _ _
     (λ y. let q = and-parts (leb 1 i) (leb i (m-of bs)) y in
     ap (λ (hs : List ℕ). fits hs ls) (asked-hours bs k i few ek (leb-true 1 i (q .0)) (leb-true i _ (q .1)))))
-
--- the supply read, cut to the book's kinds
-pub supply-code : (bs : List ℕ) (k : ℕ) (ls : List ℕ) → K-of bs ≤ 4 → k ≡ K-of bs → ls ≡ four (supplies (book-in bs)) → take k ls ≡ supplies (book-in bs)
-supply-code bs k ls few ek e = ap (λ (xs : List ℕ). take k xs) e ∙ four-take k _ (omega arith) (supplies-count bs ∙ sym ek)
 
 -- what is left, where the bid is one of the book's
 pub rest-code : (bs : List ℕ) (k i : ℕ) (ls ls′ : List ℕ) → K-of bs ≤ 4 → k ≡ K-of bs → ls′ ≡ less ls (four (bid-at (book-in bs) i .hours)) → 1 ≤ i

@@ -1,5 +1,5 @@
 -- Four entries of a list, cut to those that count. Cited by the proofs of src/lib.rt, of crates/winners and of crates/choice. Assumes nothing.
-use mathlib.Core.Path.{_≡_, refl, ap, _∙_}
+use mathlib.Core.Path.{_≡_, refl, sym, ap, _∙_}
 use mathlib.Core.List.{List, [], _∷_}
 use Prim.Native.Nat.{ℕ, zero, suc, _+_, _-_, _≤_, _<_}
 use native.Mathlib.Nat.{le-of-suc-le-suc}
@@ -7,6 +7,9 @@ use native.Mathlib.Omega.{arith}
 use lib.ListN.{length, getD, take}
 use lib.Seq.{ext-getD, getD-take, length-take-le}
 use Rattle.book.specs.Bytes.{bytes-at}
+use Rattle.book.specs.Book.{supplies}
+use Rattle.book.specs.Layout.{K-of, book-in}
+use Rattle.book.proofs.Places.{supplies-count}
 use Rattle.market.specs.Market.{less}
 use Rattle.hours.specs.Four.{four}
 
@@ -29,6 +32,10 @@ four-take k xs h e =
     let own = length-take-le k (four xs) h in
     ext-getD 0 _ _ (own ∙ omega arith)
     (λ i l. getD-take k (four xs) i 0 (omega (arith, own)) ∙ four-at (λ i. getD xs i 0) _ _ _ _ refl refl refl refl i (omega (arith, own)))
+
+-- the supply read, cut to the book's kinds
+pub supply-take : (bs : List ℕ) (k : ℕ) (ls : List ℕ) → K-of bs ≤ 4 → k ≡ K-of bs → ls ≡ four (supplies (book-in bs)) → take k ls ≡ supplies (book-in bs)
+supply-take bs k ls few ek e = ap (λ (xs : List ℕ). take k xs) e ∙ four-take k _ (omega arith) (supplies-count bs ∙ sym ek)
 
 -- more bytes than k, cut to k
 pub bytes-take : (k n at : ℕ) (bs : List ℕ) → k ≤ n → take k (bytes-at n at bs) ≡ bytes-at k at bs

@@ -1,8 +1,8 @@
 -- Hours kind by kind: what `fits` says of each kind, and what `less` leaves of it. proofs/Row.antt and proofs/VectorOf.antt cite it.
 -- Assumes nothing.
-use mathlib.Core.Path.{_≡_, refl, sym, ap}
-use mathlib.Core.Bool.{true, _&&_, and-true, and-assoc, false≢true}
-use mathlib.Core.List.{List, [], _∷_, _++_}
+use mathlib.Core.Path.{_≡_, refl, ap}
+use mathlib.Core.Bool.{true, false≢true}
+use mathlib.Core.List.{List, [], _∷_}
 use Prim.Native.Nat.{ℕ, zero, suc, _-_, _≤_, _<_}
 use native.Mathlib.Nat.{le-of-suc-le-suc, not-suc-le-zero}
 use native.Mathlib.Omega.{arith}
@@ -42,18 +42,3 @@ fits-if (x ∷ hs) [] n h = absurd (not-suc-le-zero n)
 fits-if (x ∷ hs) (l ∷ ls) n h =
     and-both (leb x l) (fits hs ls) (le-leb x l (h 0 (omega arith)))
     (fits-if hs ls (le-of-suc-le-suc n) (λ k b. h (suc k) (omega arith)))
-
--- one kind more at the end
-pub fits-more : (hs ls : List ℕ) (h l : ℕ) → length hs ≡ length ls → fits (hs ++ (h ∷ [])) (ls ++ (l ∷ [])) ≡ (fits hs ls && leb h l)
-unfolding fits
-fits-more [] [] h l e = and-true (leb h l)
-fits-more [] (y ∷ ls) h l e = absurd (omega arith)
-fits-more (x ∷ hs) [] h l e = absurd (omega arith)
-fits-more (x ∷ hs) (y ∷ ls) h l e = rw (fits-more hs ls h l (omega arith)) (sym (and-assoc (leb x y) (fits hs ls) (leb h l)))
-
-pub less-more : (ls hs : List ℕ) (l h : ℕ) → length ls ≡ length hs → less (ls ++ (l ∷ [])) (hs ++ (h ∷ [])) ≡ less ls hs ++ ((l - h) ∷ [])
-unfolding less
-less-more [] [] l h e = refl
-less-more [] (x ∷ hs) l h e = absurd (omega arith)
-less-more (y ∷ ls) [] l h e = absurd (omega arith)
-less-more (y ∷ ls) (x ∷ hs) l h e = ap (λ (zs : List ℕ). (y - x) ∷ zs) (less-more ls hs l h (omega arith))

@@ -12,10 +12,8 @@ use Rattle.book.specs.Book.{Bid, no-bid, clients, supplies}
 use Rattle.book.specs.Layout.{K-of, n-of, m-of, book-in}
 use Rattle.book.specs.Questions.{book-refusal}
 use Rattle.book.specs.Sound.{Sound}
-use Rattle.book.proofs.Places.{bid-at-none, bid-at-zero, clients-count, supplies-count}
+use Rattle.book.proofs.Places.{bid-at-none, bid-at-zero, clients-count}
 use lib.ListN.{take}
-use Rattle.hours.specs.Four.{four}
-use Rattle.hours.proofs.Fours.{four-take}
 use Rattle.market.specs.Greatest.{best}
 use Rattle.market.proofs.Best.{best-most}
 use Rattle.combinations.specs.Combinations.{amount-of}
@@ -39,10 +37,6 @@ unfolding greatest greatest-without
 greatest-most bs s d =
     let most : greatest (book-in bs) d ≤ 1000000 * clients (book-in bs) = best-most _ _ 1000000 (amount-most bs s) _ _ _ in
     omega (arith, clients-count bs, s .n-high)
-
--- the supply read, cut to the book's kinds
-pub supply-found : (bs ls : List ℕ) → Sound bs → ls ≡ four (supplies (book-in bs)) → take (K-of bs) ls ≡ supplies (book-in bs)
-supply-found bs ls s e = ap (λ (xs : List ℕ). take (K-of bs) xs) e ∙ four-take (K-of bs) _ (s .K-high) (supplies-count bs)
 
 -- the search from floor 0 over all clients, with the amounts for weights
 pub greatest-found : (bs ws left : List ℕ) (d k n r : ℕ) → Sound bs → k ≡ K-of bs → n ≡ n-of bs → take (K-of bs) left ≡ supplies (book-in bs)

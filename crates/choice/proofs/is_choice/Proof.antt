@@ -9,7 +9,8 @@ use lib.ListN.{drop}
 use Rattle.sets.proofs.Prefixes.{prefix-next, prefix-done}
 use Rattle.market.specs.Market.{less}
 use Rattle.book.proofs.Soundness.{sound}
-use Rattle.choice.proofs.Choosing.{supply-code, rest-code, follows-number, choice-next, choice-done}
+use Rattle.hours.proofs.Fours.{supply-take}
+use Rattle.choice.proofs.Choosing.{rest-code, follows-number, choice-next, choice-done}
 use Rattle.book.specs.Book.{clients}
 use Rattle.book.specs.Layout.{book-in}
 use Rattle.combinations.specs.Combinations.{market}
@@ -32,7 +33,7 @@ loop-holds : tie.Need-loop-holds Inv-loop μ-loop
 unfolding is-combination
 loop-holds c =
     let p = c .before .before .pre in
-    (search needs, rw (supply-code _ _ _ (p .sound .K-high) (p .kinds) (c .supply .ensures)), search needs)
+    (search needs, rw (supply-take _ _ _ (p .sound .K-high) (p .kinds) (c .supply .ensures)), search needs)
 
 may-follow-requires : tie.Need-may-follow-requires Inv-loop μ-loop
 may-follow-requires c κs = let p = c .before .before .before .before .pre in record { sound = p .sound; few = search needs; kinds = p .kinds; bids = p .bids; clients = p .clients }

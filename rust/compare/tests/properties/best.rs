@@ -77,18 +77,14 @@ fn no_other_discounts_do_as_well_over_larger_books() {
     );
 }
 
-/// Discounts of the greatest sum that are not the nearest are beaten: the tests above can fail.
-#[test]
-fn discounts_that_are_not_nearest_are_beaten() {
-    let mut rng = Rng::new(33);
+/// Worse discounts, made from the best of many calls, are nearly all beaten by some of those tried: the tests above can fail.
+fn mostly_beaten(seed: u64, rounds: usize, worse: impl Fn(&mut Rng, Pricing) -> Option<Pricing>) {
+    let mut rng = Rng::new(seed);
     let mut tried_out = 0;
     let mut beaten = 0;
-    for _ in 0..1_500 {
+    for _ in 0..rounds {
         let best = small_pricing(&mut rng);
-        let x = corner(&mut rng, &best);
-        if x != best.x {
-            assert!(best.admits(&x));
-            let base = Pricing { x, ..best };
+        if let Some(base) = worse(&mut rng, best) {
             tried_out += 1;
             beaten += u64::from(tried(&mut rng, &base, 60).better > 0);
         }
@@ -100,24 +96,23 @@ fn discounts_that_are_not_nearest_are_beaten() {
     );
 }
 
-/// Likewise discounts that are too small by a twelfth of one winner's.
+/// Discounts of the greatest sum that are not the nearest.
+#[test]
+fn discounts_that_are_not_nearest_are_beaten() {
+    mostly_beaten(33, 1_500, |rng, best| {
+        let x = corner(rng, &best);
+        assert!(best.admits(&x));
+        (x != best.x).then(|| Pricing { x, ..best })
+    });
+}
+
+/// Discounts that are too small by a twelfth of one winner's.
 #[test]
 fn discounts_that_are_too_small_are_beaten() {
-    let mut rng = Rng::new(34);
-    let mut tried_out = 0;
-    let mut beaten = 0;
-    for _ in 0..500 {
-        let mut base = small_pricing(&mut rng);
+    mostly_beaten(34, 500, |rng, mut base| {
         let j = rng.index(0, base.w() - 1);
-        if base.x[j] != ZERO {
-            base.x[j] = base.x[j] * Fraction::new(11, 12);
-            tried_out += 1;
-            beaten += u64::from(tried(&mut rng, &base, 60).better > 0);
-        }
-    }
-    println!("{beaten} of {tried_out}");
-    assert!(
-        tried_out >= 100 && beaten * 10 >= tried_out * 9,
-        "{beaten} of {tried_out}"
-    );
+        let large = base.x[j] != ZERO;
+        base.x[j] = base.x[j] * Fraction::new(11, 12);
+        large.then_some(base)
+    });
 }

@@ -1,8 +1,10 @@
 -- `winners::value::value_by` meets its contract. Assumes nothing.
 use borrow.Author.Needs.{needs}
 use native.Mathlib.Omega.{arith}
+use mathlib.Core.Path.{refl}
+use Rattle.hours.proofs.Fours.{supply-take}
 use Rattle.winners.proofs.Lookups.{topped-done}
-use Rattle.winners.proofs.Values.{supply-found, greatest-found}
+use Rattle.winners.proofs.Values.{greatest-found}
 use Rattle.winners.proofs.Placing.{placed-sound, owned-sound, weights-some}
 use Rattle.winners.proofs.value.value_by.Statement.{statement}
 use Rattle.winners.proofs.value.value_by.Tie as tie
@@ -32,7 +34,7 @@ returns : tie.Need-returns
 returns c =
     let s = c .before .before .before .before .before .before .before .before .before in
     greatest-found (s .args .book .now) _ _ _ _ _ _ (s .pre .0) (c .before .before .before .before .before .before .before .kinds .ensures)
-    (c .before .before .before .before .before .before .clients .ensures) (supply-found _ _ (s .pre .0) (c .before .before .before .supply .ensures)) (s .pre .1 .weighed) (c .search-from .ensures .0)
+    (c .before .before .before .before .before .before .clients .ensures) (supply-take _ _ _ (s .pre .0 .K-high) refl (c .before .before .before .supply .ensures)) (s .pre .1 .weighed) (c .search-from .ensures .0)
 
 pub value-by-spec : {M : Type 1} → statement M
 value-by-spec =
