@@ -1,1 +1,2 @@
+-- Four entries of a list, one for each kind.
 pub mod Four
