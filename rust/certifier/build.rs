@@ -1,11 +1,27 @@
 //! Links the proved library, which `rt staticlib exports` writes to target/staticlib.
 
-use std::path::Path;
+use std::env;
+use std::path::{Path, PathBuf};
+use std::process::Command;
+
+/// Where to link from: a copy of the library whose functions begin at multiples of 64 bytes, as those in Rust do (.cargo/config.toml), so that a
+/// comparison of times does not hang on where the linker puts what. Where there is no objcopy, the library as it is.
+fn placed(archive: &Path) -> PathBuf {
+    let folder = PathBuf::from(env::var_os("OUT_DIR").expect("cargo gives OUT_DIR"));
+    let copied = Command::new("objcopy")
+        .args(["--set-section-alignment", ".text*=64"])
+        .args([archive, &folder.join("libexports.a")])
+        .status();
+    match copied {
+        Ok(status) if status.success() => folder,
+        _ => archive.parent().expect("the library is in a folder").into(),
+    }
+}
 
 fn main() {
     let root = Path::new(env!("CARGO_MANIFEST_DIR")).join("../..");
     let archive = root.join("target/staticlib/libexports.a");
     println!("cargo:rerun-if-changed={}", archive.display());
-    println!("cargo:rustc-link-search=native={}", archive.parent().unwrap().display());
+    println!("cargo:rustc-link-search=native={}", placed(&archive).display());
     println!("cargo:rustc-link-lib=static=exports");
 }

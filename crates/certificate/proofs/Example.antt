@@ -11,7 +11,8 @@ use Rattle.pricing.specs.Ranges.{signed}
 use Rattle.ranges.specs.Figures.{at, certificate}
 use Rattle.pricing.specs.Ranges.{winners-at-most, sets-at-most, G-in-range, in-range}
 use Rattle.ranges.specs.Bounds.{tables-fit, reserve-in-range}
-use Rattle.certificate.specs.Questions.{reserve-kept, reserve-number, slack-test, first-failed, balances-number}
+use Rattle.discounts.specs.Questions.{reserve-kept, reserve-number, slack-test}
+use Rattle.certificate.specs.Questions.{first-failed, balances-number}
 
 -- figures with s 1: by winner from winner 0, by set from set 0
 abbrev figures : (w q : ℕ) → (x z r t : List ℕ) → (g : ℕ) → (y u : List ℕ) → Figures

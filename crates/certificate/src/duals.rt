@@ -4,11 +4,9 @@ ghost use Prim.Native.Nat.{ℕ};
 ghost use Rattle.pricing.specs.Questions.{test, cover, totals};
 ghost use Rattle.ranges.specs.Figures.{at, certificate};
 ghost use Rattle.ranges.specs.Ranges.{Ranges};
-ghost use Rattle.certificate.specs.Ranges.{Ready};
+ghost use Rattle.discounts.specs.Ranges.{Ready};
 use crate::sums::held;
 use crate::sums::sets_weighed;
-use crate::sums::total;
-use crate::sums::winners_weighed;
 use ranges::Figures;
 use ranges::logic::both;
 
@@ -39,6 +37,14 @@ pub(crate) fn totals_meet(f: Figures, sigma: [u64; 64], rho: [u64; 6]) -> bool
     let x = f.x;
     let y = f.y;
     let z = f.z;
-    let bound = sets_weighed(w, y, sigma) + winners_weighed(w, z, rho);
-    f.q * bound == f.s * total(w, x)
+    let sets = sets_weighed(w, y, sigma);
+    let mut winners = 0;
+    let mut given = 0;
+    let mut j = 0;
+    while j < w {
+        winners += z[j] * rho[j];
+        given += x[j];
+        j += 1;
+    }
+    f.q * (sets + winners) == f.s * given
 }

@@ -1,46 +1,32 @@
-// The checks of an auction certificate over arrays by value: question 10, and questions 11 to 15. Question 7 on its ranges is put by
-// crates/ranges, which has the figures' type too.
-// A client may cite the contracts of `reserve` and `balances`, which ask nothing, and the laws of the numbers that they answer, in
-// proofs/Refusals.
+// The checks of an auction certificate over arrays by value: questions 11 to 15. Question 7 on its ranges is put by crates/ranges, which
+// has the figures' type too; questions 10, 11 and 15, which look at one bound after another, by crates/discounts.
+// A client may cite the contract of `balances`, which asks nothing, and the laws of the numbers that it answers, in proofs/Refusals.
 ghost use mathlib.Core.Path.{_≡_};
 ghost use Rattle.ranges.specs.Figures.{at, certificate};
-ghost use Rattle.certificate.specs.Questions.{reserve-number, balances-number};
+ghost use Rattle.certificate.specs.Questions.{balances-number};
 
-mod chain;
 mod duals;
-mod members;
 mod nearest;
-mod slack;
 mod sums;
-mod within;
 
-use chain::first_failed;
+use discounts::bounded;
+use duals::all_covered;
+use duals::totals_meet;
+use nearest::all_balanced;
 use ranges::Figures;
-use ranges::limits::in_range;
-use ranges::limits::reserve_in_range;
-use ranges::limits::tables_fit;
 use ranges::logic::answer;
-use within::reserve_kept;
-
-// Question 10: 0, 10, or 7 where w, q or some ρ is out of range.
-pub fn reserve(w: u64, q: u64, x: [u64; 6], rho: [u64; 6]) -> u8
-    ensures { λ r. ⌜ r ≡ reserve-number w q (at rho) (at x) ⌝ }
-{
-    if !reserve_in_range(w, q, rho) {
-        return 7;
-    }
-    answer(reserve_kept(w as usize, q, x, rho), 0, 10)
-}
 
 // Questions 11 to 15: 0, the first that is answered by no, or 7 where a figure, a σ or a ρ is out of range.
 pub fn balances(f: Figures, sigma: [u64; 64], rho: [u64; 6]) -> u8
     ensures { λ r. ⌜ r ≡ balances-number (certificate f) (at sigma) (at rho) ⌝ }
 {
-    if !in_range(f) {
+    let bounds = bounded(f, sigma, rho);
+    if bounds == 7 {
         return 7;
     }
-    if !tables_fit(f.w, sigma, rho) {
-        return 7;
-    }
-    first_failed(f, sigma, rho)
+    let cover = all_covered(f);
+    let totals = totals_meet(f, sigma, rho);
+    let near = all_balanced(f, sigma);
+    let between = answer(cover, answer(totals, answer(near, bounds, 14), 13), 12);
+    answer(bounds != 11, between, 11)
 }

@@ -4,8 +4,8 @@ ghost use Prim.Native.Nat.{ℕ, _+_, _*_};
 ghost use lib.Dec.{eqb};
 ghost use Rattle.pricing.specs.Questions.{test, stationary};
 ghost use Rattle.ranges.specs.Figures.{at, above, below, certificate};
-ghost use Rattle.certificate.specs.Ranges.{Balance-fits, Sets-ready};
-use crate::members::power;
+ghost use Rattle.discounts.specs.Ranges.{Sets-ready};
+ghost use Rattle.certificate.specs.Ranges.{Balance-fits};
 use crate::sums::held;
 use ranges::Figures;
 use ranges::logic::both;
@@ -33,7 +33,7 @@ pub(crate) fn all_balanced(f: Figures, sigma: [u64; 64]) -> bool
     let mut ok = true;
     let mut j = 0;
     while j < w {
-        let alone = power(j);
+        let alone: usize = 1 << j;
         let here = balanced(f.q, sigma[alone], x[j], f.g, held(w, j, u), r[j], t[j]);
         ok = both(ok, here);
         j += 1;

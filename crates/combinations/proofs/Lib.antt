@@ -3,3 +3,4 @@ pub mod Books
 pub mod Greatest
 pub mod Surplus
 pub mod Refusals
+pub mod Most

@@ -1,7 +1,7 @@
 // The hours of a bid against the hours left: four numbers for up to four kinds, of which the first k count.
 //
-// What a client may cite: `fit`, whether the hours asked fit, and `kind_fits`, the test of one kind; `rest`, what is left once they are
-// taken; `supply`, the hours for sale. Each takes anything, asks nothing of its caller, and its contract gives its result as a value; the laws of proofs/ cut it to k kinds.
+// What a client may cite: `fit`, whether the hours asked fit; `rest`, what is left once they are taken; `supply`, the hours for sale. Each
+// takes anything, asks nothing of its caller, and its contract gives its result as a value; the laws of proofs/ cut it to k kinds.
 use book::entries;
 ghost use mathlib.Core.Path.{_≡_};
 ghost use mathlib.Core.Bool.{_||_};
@@ -14,7 +14,7 @@ ghost use Rattle.market.specs.Market.{fits, less};
 ghost use Rattle.hours.specs.Four.{four};
 
 // Whether the hours of one kind fit what is left; past the last kind they always do.
-pub fn kind_fits(k: usize, kind: usize, asked: u8, left: u8) -> bool
+fn kind_fits(k: usize, kind: usize, asked: u8, left: u8) -> bool
     ensures { λ r. ⌜ r ≡ (leb k kind || leb asked left) ⌝ }
 {
     if k <= kind { true } else { asked <= left }

@@ -1,5 +1,5 @@
 -- Whatever answers with the definitions' answer keeps every promise (judgement), and which number an input has by where it is refused.
--- Cited by the proofs of src/lib.rt. Assumes nothing.
+-- Cited by the proof of `judge_sheet`. Assumes nothing.
 use mathlib.Core.Path.{_≡_, sym, ap, _∙_}
 use mathlib.Core.Bool.{true, false}
 use mathlib.Core.List.{List}
@@ -8,18 +8,20 @@ use Prim.Native.Nat.{ℕ, _≤_, _<_}
 use native.Mathlib.Nat.{le-trans, le-of-eq}
 use native.Mathlib.Omega.{arith}
 use borrow.Author.Tests.{ne-eqb}
+use Rattle.market.specs.Market.{at}
 use Rattle.book.specs.Questions.{book-refusal}
+use Rattle.ranges.specs.declared.Figures.{Figures}
 use Rattle.demands.specs.Input.{book, sheet, sheet-part, input-refusal, Accepted}
 use Rattle.demands.specs.Questions.{form-good, judged}
-use Rattle.sets.specs.Tables.{tabulate}
-use Rattle.book.specs.Book.{Book}
-use Rattle.demands.specs.Sheet.{Sheet}
-use Rattle.demands.specs.Answer.{Answer, answer-of, price, acceptance, refusal}
+use Rattle.demands.specs.Answer.{Answer, answer-of, acceptance, refusal}
 use Rattle.demands.specs.Promise.{Demand-1}
 use Rattle.demands.proofs.Promise.{demand-1, demand-2, demand-3}
 use Rattle.demands.proofs.Answer.{answer-accepted, answer-refused, answered}
-use Rattle.judge.specs.declared.Prices.{Prices}
-use Rattle.judge.specs.Judgement.{answer-in, Judgement}
+use Rattle.prices.specs.declared.Prices.{Prices}
+use Rattle.prices.specs.Answers.{answer-in, acceptance-with}
+use Rattle.judge.specs.Judgement.{Judgement}
+use Rattle.judge.specs.Needs.{Read}
+use Rattle.judge.proofs.Reading.{read-accepted}
 
 pub judgement : (bs : List ℕ) (r : Prices) → answer-in r ≡ answer-of bs → Judgement bs r
 unfolding Demand-1
@@ -34,12 +36,6 @@ judgement bs r e =
       priced = λ z. rw e (answered bs .priced (sym number ∙ z));
       demand-3 = demand-3 bs;
     }
-
--- an acceptance, field by field
-pub acceptance-is : (b : Book) (h : Sheet) (w q : ℕ) (prices : List ℕ) → w ≡ h .numbers .w → q ≡ h .numbers .q → prices ≡ tabulate 6 (price b h)
-    → record { number = 0; w = w; q = q; prices = prices } ≡ acceptance b h
-unfolding acceptance
-acceptance-is b h w q prices ew eq ep = λ i. record { number = 0; w = ew i; q = eq i; prices = ep i }
 
 module _ (bs : List ℕ) where
   refused-with : (n : ℕ) → input-refusal bs ≡ n → 0 < n → refusal n ≡ answer-of bs
@@ -66,6 +62,11 @@ module _ (bs : List ℕ) where
     refused-sheet n j l = refused-with n (number-judged ∙ sym j) l
 
     -- it is accepted
-    pub accepted-sheet : (n : ℕ) → n ≡ judged (book bs) (sheet bs) → n ≤ 0 → acceptance (book bs) (sheet bs) ≡ answer-of bs
+    accepted-sheet : (n : ℕ) → n ≡ judged (book bs) (sheet bs) → n ≤ 0 → acceptance (book bs) (sheet bs) ≡ answer-of bs
     unfolding answer-of
     accepted-sheet n j l = sym (answer-accepted (input-refusal bs) (book bs) (sheet bs) (number-judged ∙ sym j ∙ omega arith))
+
+  -- so what was read of it is answered rightly
+  pub accepted-read : (a : Prices) (bids : List ℕ) (f : Figures) → Read bs bids f
+      → answer-in a ≡ acceptance-with (book bs) bids (f .w) (f .q) (at (f .x)) → (n : ℕ) → n ≡ judged (book bs) (sheet bs) → n ≤ 0 → Judgement bs a
+  accepted-read a bids f r e n j l = judgement bs a (e ∙ read-accepted bs bids f r ∙ accepted-sheet (r .refusal) (r .form) n j l)

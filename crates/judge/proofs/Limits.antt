@@ -16,13 +16,15 @@ use Rattle.market.proofs.Bools.{either}
 use Rattle.book.proofs.Soundness.{sound}
 use Rattle.combinations.specs.Greatest.{greatest}
 use Rattle.combinations.specs.Surplus.{surplus}
-use Rattle.winners.proofs.Values.{amount-most, greatest-most}
+use Rattle.combinations.proofs.Most.{amount-most, greatest-most}
 use Rattle.ranges.specs.Figures.{certificate}
 use Rattle.ranges.specs.declared.Figures.{Figures}
 use Rattle.ranges.specs.Ranges.{Ranges, Reserves, Winners-under, Sets-under}
-use Rattle.certificate.specs.Questions.{reserve-kept, reserve-number, slack-test, first-failed, balances-number}
+use Rattle.discounts.specs.Questions.{reserve-kept, reserve-number, slack-test}
+use Rattle.certificate.specs.Questions.{first-failed, balances-number}
 use Rattle.ranges.proofs.InRange.{in-range-iff, reserve-in-range-iff}
-use Rattle.certificate.proofs.Refusals.{reserve-kept-test, balances-number-first}
+use Rattle.discounts.proofs.Refusals.{reserve-kept-test}
+use Rattle.certificate.proofs.Refusals.{balances-number-first}
 use Rattle.demands.specs.Input.{book, sheet}
 use Rattle.demands.specs.Winners.{sigma, win, rho}
 use Rattle.demands.proofs.Winners.{rho-most}

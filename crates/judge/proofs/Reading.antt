@@ -1,33 +1,46 @@
--- What a sheet that has been read gives: w, the bids and the numbers of its figures, in the code's arrays. Cited by the proofs of
--- src/chain.rt, src/bounds.rt and src/accept.rt. Assumes nothing.
-use mathlib.Core.Path.{_≡_, sym, ap, ap₂, _∙_}
-use mathlib.Core.Bool.{Bool, cond}
+-- What a sheet that has been read gives: w, the bids and the numbers of its figures, in the code's arrays, and the answer that accepts
+-- them. Cited by the proofs of src/chain.rt and src/lib.rt. Assumes nothing.
+use mathlib.Core.Path.{_≡_, sym, ap, fun-ext, _∙_}
+use mathlib.Core.Bool.{cond}
 use mathlib.Core.List.{List}
 use Prim.Native.Nat.{ℕ, _*_, _-_, _≤_}
 use native.Mathlib.Nat.{le-trans, le-of-eq}
 use native.Mathlib.Decide.{decLt}
 use native.Mathlib.Omega.{arith}
-use borrow.Author.Tests.{lt-ltb, le-ltb}
-use lib.ListN.{length, getD, take}
-use lib.Seq.{take-at, ext-getD}
+use borrow.Author.Tests.{le-ltb}
+use lib.Dec.{ltb}
+use lib.ListN.{length, take}
+use lib.Seq.{take-at, getD-take}
 use Rattle.sets.specs.Tables.{tabulate}
-use Rattle.sets.proofs.Tables.{tabulate-length, tabulate-at}
 use Rattle.pricing.specs.Certificate.{Certificate}
-use Rattle.book.specs.Book.{Book, bid-at, reserves-of}
-use Rattle.combinations.specs.Combinations.{amount-of}
 use Rattle.market.specs.Market.{at}
+use Rattle.market.proofs.Bools.{cond-false}
+use Rattle.book.specs.Book.{Book}
+use Rattle.combinations.specs.Combinations.{amount-of}
 use Rattle.ranges.specs.declared.Figures.{Figures}
 use Rattle.sheet.specs.Reading.{six-of}
-use Rattle.sets.proofs.Filled.{Filled}
-use Rattle.sets.proofs.Prefixes.{prefix-length, prefix-at}
 use Rattle.demands.specs.Sheet.{Sheet}
 use Rattle.demands.specs.Input.{book, sheet, sheet-part}
-use Rattle.demands.specs.Winners.{win, reserves, rho}
-use Rattle.demands.specs.Answer.{price}
+use Rattle.demands.specs.Winners.{win}
+use Rattle.demands.specs.Answer.{price, acceptance}
 use Rattle.demands.proofs.Sheet.{sheet-winners}
 use Rattle.demands.proofs.Form.{form-few, clients-few}
-use Rattle.demands.proofs.Winners.{rho-past}
+use Rattle.prices.specs.Answers.{paid, acceptance-with}
 use Rattle.judge.specs.Needs.{Read}
+
+-- what is paid for bids of which the first are a sheet's is the sheet's price
+paid-price : (b : Book) (h : Sheet) (bids : List ℕ) → take (h .numbers .w) bids ≡ h .bids → (k : ℕ)
+    → paid b bids (h .numbers .w) (h .numbers .q) (h .numbers .X) k ≡ price b h k
+unfolding paid price win
+paid-price b h bids e k =
+    let w = h .numbers .w in
+    let due : ℕ → ℕ = λ i. h .numbers .q * amount-of b i - h .numbers .X k in
+    elim (decLt k w) [
+      | yes l ↦ ap (λ (i : ℕ). cond (ltb k w) (due i) 0) (sym (getD-take w bids k 0 l) ∙ ap (λ (is : List ℕ). at is k) e)
+      | no l ↦
+          let past = le-ltb k w (omega arith) in
+          cond-false (ltb k w) (due (at bids k)) 0 past ∙ sym (cond-false (ltb k w) (due (at (h .bids) k)) 0 past)
+    ]
 
 module _ (bs bids : List ℕ) (f : Figures) (r : Read bs bids f) where
   pub read-w : f .w ≡ sheet bs .numbers .w
@@ -44,37 +57,11 @@ module _ (bs bids : List ℕ) (f : Figures) (r : Read bs bids f) where
   unfolding six-of
   read-bids = ap (λ (xs : List ℕ). take (f .w) xs) (r .winners) ∙ take-at (sheet bs .bids) _ (f .w) read-count
 
--- one bid's amount less its reserves
-rho-at : Book → (bid : ℕ) → ℕ
-rho-at b i = amount-of b i - reserves-of (bid-at b i .hours) (b .kinds)
-
--- ρ of the winners, from the array of bids
-pub rho-filled : (b : Book) (bids : List ℕ) (w : ℕ) (xs : List ℕ) → w ≤ length bids → Filled 6 (rho b bids) w xs → (j : ℕ) → getD xs j 0 ≡ rho b (take w bids) j
-unfolding rho win reserves rho-at
-rho-filled b bids w xs h f j =
-    elim (decLt j w) [
-      | yes l ↦ f .below j l ∙ ap (λ (i : ℕ). rho-at b i) (sym (prefix-at bids w h j l))
-      | no l ↦ f .above j (omega arith) ∙ sym (rho-past b (take w bids) j (le-trans (le-of-eq (prefix-length bids w h)) (omega arith)))
-    ]
-
--- one price, for the amount that was read
-pub price-of : (q a a′ x v : ℕ) → v ≡ q * a - x → a ≡ a′ → v ≡ q * a′ - x
-price-of q a a′ x v e f = e ∙ ap (λ (z : ℕ). q * z - x) f
-
--- the prices of the winners, from the arrays
-pub prices-filled : (b : Book) (h : Sheet) (bids xs : List ℕ) (w q : ℕ) (x : ℕ → ℕ) → w ≤ length bids → w ≤ 6 → w ≡ h .numbers .w → q ≡ h .numbers .q
-    → ((k : ℕ) → x k ≡ h .numbers .X k) → take w bids ≡ h .bids → Filled 6 (λ k. q * win b bids k - x k) w xs → xs ≡ tabulate 6 (price b h)
-unfolding price win
-prices-filled b h bids xs w q x long few ew eq ex eb f =
-    ext-getD 0 xs _ (f .long ∙ sym (tabulate-length 6 _)) (λ k l. entry k ∙ sym (tabulate-at 6 (price b h) k 0 (omega (arith, f .long))))
-  where
-    entry : (k : ℕ) → getD xs k 0 ≡ price b h k
-    entry k = elim (decLt k w) [
-      | yes l ↦
-          f .below k l
-          ∙ ap₂ (λ (a d : ℕ). a - d) (ap₂ (λ (a i : ℕ). a * amount-of b i) eq (sym (prefix-at bids w long k l) ∙ ap (λ (is : List ℕ). at is k) eb)) (ex k)
-          ∙ sym (ap (λ (t : Bool). cond t (h .numbers .q * amount-of b (at (h .bids) k) - h .numbers .X k) 0) (lt-ltb k (h .numbers .w) (le-trans l (le-of-eq ew))))
-      | no l ↦
-          f .above k (omega arith)
-          ∙ sym (ap (λ (t : Bool). cond t (h .numbers .q * amount-of b (at (h .bids) k) - h .numbers .X k) 0) (le-ltb k (h .numbers .w) (le-trans (le-of-eq (sym ew)) (omega arith))))
-    ]
+  -- so to accept what was read is to accept the sheet
+  pub read-accepted : acceptance-with (book bs) bids (f .w) (f .q) (at (f .x)) ≡ acceptance (book bs) (sheet bs)
+  unfolding acceptance-with acceptance
+  read-accepted =
+      let h = sheet bs in
+      ap (λ (c : Certificate). acceptance-with (book bs) bids (c .w) (c .q) (c .X)) (r .numbers)
+      ∙ ap (λ (p : ℕ → ℕ). record { number = 0; w = h .numbers .w; q = h .numbers .q; prices = tabulate 6 p })
+      (fun-ext (paid-price (book bs) h bids (ap (λ (w : ℕ). take w bids) (sym read-w) ∙ read-bids)))

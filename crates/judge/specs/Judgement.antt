@@ -5,13 +5,10 @@ use mathlib.Core.List.{List}
 use mathlib.Core.Logic.{_⊎_, _↔_}
 use Prim.Native.Nat.{ℕ, _≤_}
 use Rattle.demands.specs.Input.{book, sheet, Accepted}
-use Rattle.demands.specs.Answer.{Answer, answer-of, Priced, Zeros}
+use Rattle.demands.specs.Answer.{answer-of, Priced, Zeros}
 use Rattle.demands.specs.Promise.{Demand-2, Demand-3}
-use Rattle.judge.specs.declared.Prices.{Prices}
-
--- the code's answer as the definitions' one
-abbrev pub answer-in : Prices → Answer
-answer-in r = record { number = r .number; w = r .w; q = r .q; prices = r .prices }
+use Rattle.prices.specs.declared.Prices.{Prices}
+use Rattle.prices.specs.Answers.{answer-in}
 
 pub record Judgement (input : List ℕ) (r : Prices) : Type 0 where
   -- number, w, q and all six places, zeros after a refusal included

@@ -1,5 +1,4 @@
 // Questions 7 to 15 in their order, put to a sheet that has been read: the number of the first that is answered no.
-use crate::bounds;
 use ranges::Figures;
 ghost use mathlib.Core.Path.{_≡_};
 ghost use Rattle.demands.specs.Input.{book, sheet};
@@ -14,8 +13,8 @@ fn certificate_number(input: &[u8], bids: [u8; 6], figures: Figures, sigma: [u64
 {
     let w = figures.w;
     let x = figures.x;
-    let rho = bounds::reserves_of(input, bids, w as usize);
-    let ten = certificate::reserve(w, figures.q, x, rho);
+    let rho = prices::reserves_of(input, bids, w as usize);
+    let ten = discounts::reserve(w, figures.q, x, rho);
     if 0 < ten {
         return ten;
     }

@@ -1,14 +1,14 @@
 -- Laws for a search that leaves out what cannot beat a value already found: a floor goes through one client's choice (choose-floor,
 -- best-floor), bids that are not open are passed by (choose-skip), and ceilings for the clients left bound the recursion
--- (best-ceiling). The layers above cite them. Assumes nothing.
-use mathlib.Core.Path.{_≡_, refl, sym, ap, _∙_}
+-- (best-ceiling). Clients with no bid add nothing (best-idle), and only the bids' weights count (best-weights). The layers above cite them. Assumes nothing.
+use mathlib.Core.Path.{_≡_, refl, sym, ap, ap₂, fun-ext, _∙_}
 use mathlib.Core.Bool.{true, false, _&&_}
 use mathlib.Core.List.{List}
 use mathlib.Core.Logic.{⊎-elim}
 use Prim.Native.Nat.{ℕ, zero, suc, _+_, _-_, _≤_, _<_, max}
-use native.Mathlib.Nat.{le-refl, le-trans, le-of-eq, eq-or-lt-of-le, le-of-suc-le-suc, max-comm}
+use native.Mathlib.Nat.{le-refl, le-trans, le-of-eq, eq-or-lt-of-le, le-of-suc-le-suc, max-comm, zero-add}
 use native.Mathlib.Omega.{arith}
-use borrow.Author.Tests.{eqb-true}
+use borrow.Author.Tests.{eqb-true, ne-eqb}
 use lib.Dec.{eqb}
 use Rattle.market.specs.Market.{Market, fits, less}
 use Rattle.market.specs.Greatest.{open-to, choose, best}
@@ -63,3 +63,35 @@ best-ceiling m wt tops falls covers (suc k) c ls low =
     let below = rw own at (covers i l (and-parts (m .may (suc i)) (fits (m .hours (suc i)) ls) able .0)) in
     omega (arith, e, below, best-ceiling m wt tops falls covers k (suc c) (less ls (m .hours (suc i))) (omega arith)))
     (choose-attained m wt c ls (best m wt k (suc c) ls) (λ rs. best m wt k (suc c) rs) (m .bids))
+
+-- clients past the last owner of a bid reach nothing, and so add nothing after the others
+module _ (m : Market) (wt : ℕ → ℕ) (n : ℕ) (h : (i : ℕ) → suc i ≤ m .bids → m .owner (suc i) ≤ n) where
+  idle-zero : (j c : ℕ) (ls : List ℕ) → n < c → best m wt j c ls ≡ 0
+  unfolding best open-to choose
+  idle-zero zero c ls l = refl
+  idle-zero (suc j) c ls l =
+      choose-skip m wt c ls (λ rs. best m wt j (suc c) rs) 0 (m .bids) (best m wt j (suc c) ls) (omega arith)
+      (λ i _ k. let apart : eqb (m .owner (suc i)) c ≡ false = ne-eqb (m .owner (suc i)) c (λ e. omega (arith, h i k)) in rw apart)
+      ∙ idle-zero j (suc c) ls (omega arith)
+
+  pub best-idle : (j k c : ℕ) (ls : List ℕ) → c + k ≡ n + 1 → best m wt (k + j) c ls ≡ best m wt k c ls
+  unfolding best
+  best-idle j zero c ls e = rw (zero-add j) (idle-zero j c ls (omega arith))
+  best-idle j (suc k) c ls e =
+      let more : suc k + j ≡ suc (k + j) = omega arith in
+      rw more (ap₂ (λ (p : ℕ) (on : List ℕ → ℕ). choose m wt (m .bids) c ls p on)
+      (best-idle j k (suc c) ls (omega arith)) (fun-ext (λ rs. best-idle j k (suc c) rs (omega arith))))
+
+-- weights count for the bids alone
+module _ (m : Market) (wt wt′ : ℕ → ℕ) (h : (i : ℕ) → suc i ≤ m .bids → wt (suc i) ≡ wt′ (suc i)) where
+  choose-weights : (n c : ℕ) (ls : List ℕ) (p : ℕ) (on : List ℕ → ℕ) → n ≤ m .bids → choose m wt n c ls p on ≡ choose m wt′ n c ls p on
+  unfolding choose
+  choose-weights zero c ls p on l = refl
+  choose-weights (suc n) c ls p on l = rw (choose-weights n c ls p on (omega arith), h n l)
+
+  pub best-weights : (k c : ℕ) (ls : List ℕ) → best m wt k c ls ≡ best m wt′ k c ls
+  unfolding best
+  best-weights zero c ls = refl
+  best-weights (suc k) c ls =
+      choose-weights (m .bids) c ls _ _ (le-refl _)
+      ∙ ap₂ (λ (p : ℕ) (on : List ℕ → ℕ). choose m wt′ (m .bids) c ls p on) (best-weights k (suc c) ls) (fun-ext (λ rs. best-weights k (suc c) rs))

@@ -1,5 +1,5 @@
 -- Tests joined by `and`, and tests that decide the same. Cited by the laws of ranges, by the proofs of the
--- functions that join tests, and by crates/certificate. Assumes nothing.
+-- functions that join tests, and by crates/discounts and crates/certificate. Assumes nothing.
 use mathlib.Core.Path.{_≡_, refl, sym, ap, _∙_}
 use mathlib.Core.Bool.{Bool, true, false, cond, _&&_, false≢true}
 use mathlib.Core.Logic.{_↔_}

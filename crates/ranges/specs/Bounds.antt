@@ -1,5 +1,5 @@
 -- The tests of the bounds that a certificate is judged by, beside those of its own figures (pricing/specs/Ranges.antt). Cited by the
--- contracts, and by the numbers of questions 10 to 15 in crates/certificate. Assumes nothing: these are definitions.
+-- contracts, and by the numbers of questions 10 to 15 in crates/discounts and crates/certificate. Assumes nothing: these are definitions.
 use mathlib.Core.Bool.{Bool, _&&_}
 use Prim.Native.Nat.{ℕ}
 use lib.Dec.{leb}

@@ -1,5 +1,5 @@
 -- Question 7 and the bounds of tables as plain facts, which the tests of them decide. Cited by the private contracts of
--- crates/certificate and by whoever rests on an answer. Assumes nothing: these are definitions.
+-- crates/discounts and crates/certificate and by whoever rests on an answer. Assumes nothing: these are definitions.
 use Prim.Native.Nat.{ℕ, _^_, _≤_, _<_}
 use lib.IntN.{natAbs}
 use Rattle.pricing.specs.Certificate.{Certificate}

@@ -1,5 +1,5 @@
 -- The first entries of an array as a list that a loop walks: the next entry and what is left. Cited by the proofs of loops over lists of
--- bids and of clients, in crates/winners, choice and judge. Assumes nothing.
+-- bids and of clients, in crates/winners and choice. Assumes nothing.
 use mathlib.Core.Path.{_≡_, ap, _∙_}
 use mathlib.Core.List.{List, [], _∷_}
 use Prim.Native.Nat.{ℕ, suc, _+_, _≤_, _<_}

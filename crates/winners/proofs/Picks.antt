@@ -11,15 +11,19 @@ use native.Mathlib.Decide.{decLt}
 use native.Mathlib.Omega.{arith}
 use borrow.Author.Tests.{ltb-true, leb-true, le-leb, eq-eqb, ne-eqb}
 use lib.Dec.{leb, ltb, eqb}
-use lib.ListN.{length}
+use lib.ListN.{length, getD, take}
 use lib.Pow.{pow-mono}
-use Rattle.sets.specs.Sets.{has, set-of}
+use Rattle.sets.specs.Sums.{sum}
+use Rattle.sets.specs.Sets.{has, set-of, sum-in}
+use Rattle.sets.proofs.Filled.{Filled}
+use Rattle.sets.proofs.Prefixes.{prefix-length, prefix-at}
 use Rattle.sets.proofs.Members.{has-zero, has-set-of, set-of-lt, set-of-add, has-above}
 use Rattle.market.specs.Market.{at}
 use Rattle.market.proofs.Bools.{either, and-parts}
 use Rattle.combinations.specs.Greatest.{discarded}
 use Rattle.combinations.specs.Surplus.{any, picked}
 use Rattle.combinations.proofs.Surplus.{picked-true}
+use Rattle.winners.specs.Needs.{Listed, Bits}
 use Rattle.winners.specs.Surpluses.{rising-to}
 
 -- clients that rise lie between
@@ -105,6 +109,40 @@ module _ (cs : List ℕ) (L : ℕ) where
       let same : set-of 6 (early (j + 1)) ≡ set-of 6 (early j) = ap (λ (f : ℕ → Bool). set-of 6 f) (fun-ext (λ k. early-next j k ∙ rw y (or-false (early j k)))) in
       omega (arith, none, same))
       (either (has L j))
+
+-- the clients of a list are from 1 to 6
+pub listed-range : (clients : List ℕ) (count j : ℕ) → Listed clients count → length clients ≡ 6 → j < count → (1 ≤ getD clients j 0) × (getD clients j 0 ≤ 6)
+listed-range clients count j h e l =
+    let few = h .few in
+    let at-j = prefix-at clients count (omega arith) j l in
+    let r = rising-range 6 0 (take count clients) (h .rising) j (omega (arith, prefix-length clients count (omega arith))) in
+    (omega (arith, at-j, r .0), omega (arith, at-j, r .1))
+
+-- their bits, filled in
+pub bits-done : (clients : List ℕ) (count j : ℕ) (bits : List ℕ) → Listed clients count → length clients ≡ 6 → j ≡ count
+    → Filled 6 (λ i. 2 ^ (getD clients i 0 - 1)) j bits → Bits clients count bits
+bits-done clients count j bits h e ej f = record {
+  each = λ i l. f .below i (omega arith);
+  all = record { few = h .few; most = λ i l. omega (arith, f .below i (omega arith), pow-mono {i = getD clients i 0 - 1} {j = 5} (omega (arith, listed-range clients count i h e l))) };
+}
+
+-- the sum of the bits of those that a set picks is its discard byte
+pub byte-sum : (clients bits : List ℕ) (count L : ℕ) → Listed clients count → Bits clients count bits → length clients ≡ 6
+    → set-of 6 (λ k. picked (take count clients) L (suc k)) ≡ sum-in count L (λ j. getD bits j 0)
+unfolding sum-in sum
+byte-sum clients bits count L h b e =
+    let few = h .few in
+    let long = prefix-length clients count (omega arith) in
+    sym (byte-all (take count clients) L count _ (sym long) refl) ∙ go count (omega arith)
+  where
+    go : (j : ℕ) → j ≤ count → set-of 6 (early (take count clients) L j) ≡ sum j (λ i. cond (has L i) (getD bits i 0) 0)
+    go zero l = sym (byte-none (take count clients) L)
+    go (suc j) l =
+        let few = h .few in
+        let long = prefix-length clients count (omega arith) in
+        let bit : cond (has L j) (getD bits j 0) 0 ≡ cond (has L j) (2 ^ (getD clients j 0 - 1)) 0 = ap (λ (x : ℕ). cond (has L j) x 0) (b .each j (omega arith)) in
+        sym (ap (λ (n : ℕ). set-of 6 (early (take count clients) L n)) (add-one j))
+        ∙ sym (byte-next (take count clients) L j (getD clients j 0) _ _ _ (h .rising) (omega arith) (prefix-at clients count (omega arith) j (omega arith)) bit (sym (go j (omega arith))) refl)
 
 -- a client that is nowhere in the list is not picked
 unpicked : (cs : List ℕ) (L c : ℕ) → ((j : ℕ) → j < length cs → at cs j ≢ c) → picked cs L c ≡ false

@@ -1,6 +1,6 @@
--- The σ table: what one set's entry is, and a filled array as the table. Cited by the proofs of src/table.rt. Assumes nothing.
+-- The σ table: what one set's entry is, and an array of differences as the table. Cited by the proofs of src/table.rt. Assumes nothing.
 use mathlib.Core.Path.{_≡_, sym, ap, ap₂, fun-ext, _∙_}
-use mathlib.Core.Bool.{Bool, cond}
+use mathlib.Core.Bool.{Bool, true, cond}
 use mathlib.Core.List.{List}
 use Prim.Native.Nat.{ℕ, suc, _*_, _-_, _%_, _^_, _≤_, _<_}
 use native.Mathlib.Decide.{decLt}
@@ -12,43 +12,50 @@ use lib.Pow.{pow-pos, pow-mono, shl-exact}
 use lib.Seq.{ext-getD}
 use Rattle.sets.specs.Sets.{set-of}
 use Rattle.sets.proofs.Tables.{tabulate-at, tabulate-length}
-use Rattle.book.specs.Layout.{n-of, book-in}
-use Rattle.combinations.specs.Greatest.{greatest, greatest-without, discarded}
+use Rattle.book.specs.Layout.{book-in}
+use Rattle.combinations.specs.Greatest.{greatest, greatest-without}
 use Rattle.combinations.specs.Surplus.{picked, surplus}
-use Rattle.combinations.proofs.Greatest.{greatest-all}
-use Rattle.winners.specs.Needs.{Listed}
-use Rattle.winners.specs.Surpluses.{surplus-table}
-use Rattle.sets.proofs.Filled.{Filled}
-use Rattle.winners.proofs.Picks.{rising-more, byte-picks, picked-none}
+use Rattle.values.specs.Values.{values-of}
+use Rattle.winners.specs.Needs.{Listed, Discards, Differences}
+use Rattle.winners.specs.Surpluses.{rising-to, surplus-table}
+use Rattle.winners.proofs.Picks.{byte-picks, picked-none}
 
 -- 1 << w as the number of sets
 pub shl-one : (w : ℕ) → w ≤ 6 → (1 * 2 ^ w % 2 ^ 64 ≡ 2 ^ w) × (1 ≤ 2 ^ w) × (2 ^ w ≤ 64)
 shl-one w h = (shl-exact {a = 1} 1 w 64 (lit< tt) (omega arith) ∙ omega arith, pow-pos w, pow-mono {i = w} {j = 6} h)
 
--- the empty set's σ is 0
-pub surplus-empty : (bs cs : List ℕ) → surplus (book-in bs) cs 0 ≡ 0
-unfolding surplus
-surplus-empty bs cs = rw (greatest-all bs, fun-ext (picked-none cs)) (omega arith)
+-- the empty set discards nobody
+byte-empty : (cs : List ℕ) → set-of 6 (λ j. picked cs 0 (suc j)) ≡ 0
+unfolding set-of
+byte-empty cs = ap (λ (p : ℕ → Bool). set-of 6 p) (fun-ext (λ j. picked-none cs (suc j)))
 
 -- a set's entry
-pub surplus-set : (bs clients : List ℕ) (count L v u d e : ℕ) → Listed bs clients count → v ≡ greatest (book-in bs) 0
-    → d ≡ set-of 6 (λ j. picked (take count clients) L (suc j)) → u ≡ greatest (book-in bs) d → e ≡ v - u
-    → e ≡ surplus (book-in bs) (take count clients) L
+surplus-set : (bs cs : List ℕ) (L v u : ℕ) → rising-to 6 0 cs ≡ true → v ≡ greatest (book-in bs) 0 → u ≡ greatest (book-in bs) (set-of 6 (λ j. picked cs L (suc j)))
+    → v - u ≡ surplus (book-in bs) cs L
 unfolding surplus greatest
-surplus-set bs clients count L v u d e h ev ed eu ee =
-    ee ∙ ap₂ (λ (a b : ℕ). a - b) ev (eu ∙ ap (λ (x : ℕ). greatest-without (book-in bs) (discarded x)) ed
-    ∙ ap (λ (out : ℕ → Bool). greatest-without (book-in bs) out) (fun-ext (byte-picks 6 (take count clients) L (rising-more (n-of bs) 6 0 (take count clients) (h .sound .n-high) (h .rising)))))
+surplus-set bs cs L v u h ev eu =
+    ap₂ (λ (a b : ℕ). a - b) ev (eu ∙ ap (λ (out : ℕ → Bool). greatest-without (book-in bs) out) (fun-ext (byte-picks 6 cs L h)))
 
--- the array filled up to the number of sets is the table
-pub table-done : (bs clients : List ℕ) (count end : ℕ) (xs : List ℕ) → end ≡ 2 ^ count → Filled 64 (surplus (book-in bs) (take count clients)) end xs
-    → xs ≡ surplus-table bs clients count
-unfolding surplus-table
-table-done bs clients count end xs e h =
-    ext-getD 0 xs _ (h .long ∙ sym (tabulate-length 64 _))
-    (λ L l. entry L ∙ sym (tabulate-at 64 (λ L. cond (ltb L (2 ^ count)) (surplus (book-in bs) (take count clients) L) 0) L 0 (omega (arith, h .long))))
-  where
-    entry : (L : ℕ) → getD xs L 0 ≡ cond (ltb L (2 ^ count)) (surplus (book-in bs) (take count clients) L) 0
-    entry L = elim (decLt L end) [
-      | yes m ↦ rw (lt-ltb L (2 ^ count) (rw e at m)) (h .below L m)
-      | no m ↦ let k : end ≤ L = omega arith in rw (le-ltb L (2 ^ count) (rw e at k)) (h .above L k)
-    ]
+module _ (bs clients ds vs : List ℕ) (count n : ℕ) (l : Listed clients count) (d : Discards clients count ds) (en : n ≡ 2 ^ count) (v : vs ≡ values-of bs ds n) where
+  value-at : (L : ℕ) → L < 2 ^ count → getD vs L 0 ≡ greatest (book-in bs) (set-of 6 (λ j. picked (take count clients) L (suc j)))
+  unfolding values-of
+  value-at L k =
+      ap (λ (xs : List ℕ). getD xs L 0) v ∙ tabulate-at 64 (λ i. cond (ltb i n) (greatest (book-in bs) (getD ds i 0)) 0) L 0 (omega (arith, shl-one count (l .few) .2))
+      ∙ rw (lt-ltb L n (omega arith)) (ap (λ (x : ℕ). greatest (book-in bs) x) (d L k))
+
+  -- the first value is that with nobody discarded
+  pub value-all : getD vs 0 0 ≡ greatest (book-in bs) 0
+  value-all = value-at 0 (shl-one count (l .few) .1) ∙ ap (λ (x : ℕ). greatest (book-in bs) x) (byte-empty (take count clients))
+
+  -- the differences are the table
+  pub table-done : (sigma : List ℕ) → Differences vs count sigma → sigma ≡ surplus-table bs clients count
+  unfolding surplus-table
+  table-done sigma h =
+      ext-getD 0 sigma _ (h .long ∙ sym (tabulate-length 64 _))
+      (λ L k. h .each L ∙ entry L ∙ sym (tabulate-at 64 (λ L. cond (ltb L (2 ^ count)) (surplus (book-in bs) (take count clients) L) 0) L 0 (omega (arith, h .long))))
+    where
+      entry : (L : ℕ) → cond (ltb L (2 ^ count)) (getD vs 0 0 - getD vs L 0) 0 ≡ cond (ltb L (2 ^ count)) (surplus (book-in bs) (take count clients) L) 0
+      entry L = elim (decLt L (2 ^ count)) [
+        | yes k ↦ rw (lt-ltb L (2 ^ count) k) (surplus-set bs (take count clients) L _ _ (l .rising) value-all (value-at L k))
+        | no k ↦ rw (le-ltb L (2 ^ count) (omega arith))
+      ]

@@ -1,18 +1,20 @@
-// Sets of a list of clients: whether the list rises, and the discard byte of the clients that a set's number picks.
+// Sets of a list of clients: whether the list rises, and the discard bytes of the clients that the sets' numbers pick.
 use book::flags;
 ghost use mathlib.Core.Path.{_≡_};
-ghost use mathlib.Core.Bool.{true, cond};
-ghost use Prim.Native.Nat.{suc, _-_, _^_, _≤_, _<_};
-ghost use lib.ListN.{take};
-ghost use Rattle.sets.specs.Sets.{has, set-of};
-ghost use Rattle.combinations.specs.Surplus.{picked};
+ghost use mathlib.Core.Bool.{_&&_};
+ghost use lib.Dec.{leb};
+ghost use lib.ListN.{take, getD};
+ghost use Rattle.sets.specs.Sets.{sum-in};
+ghost use Rattle.winners.specs.Needs.{Listed, Bits, Few-bits, Discards};
 ghost use Rattle.winners.specs.Surpluses.{rising-to};
 
-// Whether the first of the list are clients up to n, strictly rising.
+// Whether the list has at most six clients, up to n and strictly rising.
 pub(crate) fn is_rising(clients: [u8; 6], count: usize, n: usize) -> bool
-    requires { ⌜ count ≤ 6 ⌝ }
-    ensures { λ r. ⌜ r ≡ rising-to n 0 (take count clients) ⌝ }
+    ensures { λ r. ⌜ r ≡ (leb count 6 && rising-to n 0 (take count clients)) ⌝ }
 {
+    if 6 < count {
+        return false;
+    }
     let mut ok = true;
     let mut last: usize = 0;
     let mut i: usize = 0;
@@ -25,28 +27,46 @@ pub(crate) fn is_rising(clients: [u8; 6], count: usize, n: usize) -> bool
     ok
 }
 
-// The bit of a client in a discard byte, where the set holds the client's place.
-fn bit_of(set: usize, j: usize, client: usize) -> usize
-    requires { ⌜ (j < 6) × (1 ≤ client) × (client ≤ 6) ⌝ }
-    ensures { λ r. ⌜ (r ≡ cond (has set j) (2 ^ (client - 1)) 0) × (r ≤ 32) ⌝ }
+// The bit of each client of the list in a discard byte: bit 0 is client 1.
+fn bits_of(clients: [u8; 6], count: usize) -> [u64; 6]
+    requires { ⌜ Listed clients count ⌝ }
+    ensures { λ r. ⌜ Bits clients count r ⌝ }
 {
-    if (set >> j) & 1 == 1 {
-        1 << (client - 1)
-    } else {
-        0
-    }
-}
-
-// The discard byte of the clients that the set picks from the list: bit j of its number stands for the j-th. Bit 0 of the byte is client 1.
-pub(crate) fn discard_of(clients: [u8; 6], count: usize, set: usize) -> u8
-    requires { ⌜ (count ≤ 6) × (rising-to 6 0 (take count clients) ≡ true) ⌝ }
-    ensures { λ r. ⌜ r ≡ set-of 6 (λ j. picked (take count clients) set (suc j)) ⌝ }
-{
-    let mut byte: usize = 0;
+    let mut bits = [0u64; 6];
     let mut j: usize = 0;
     while j < count {
-        byte = byte + bit_of(set, j, clients[j] as usize);
+        bits[j] = 1 << (clients[j] as usize - 1);
+        j += 1;
+    }
+    bits
+}
+
+// The discard byte of the clients that the set picks, by their bits: bit j of the set's number stands for the j-th.
+fn discard_of(bits: [u64; 6], count: usize, set: usize) -> u8
+    requires { ⌜ Few-bits count bits ⌝ }
+    ensures { λ r. ⌜ r ≡ sum-in count set (λ j. getD bits j 0) ⌝ }
+{
+    let mut byte: u64 = 0;
+    let mut j: usize = 0;
+    while j < count {
+        byte = byte + numbers::share((set >> j) & 1 == 1, bits[j]);
         j += 1;
     }
     byte as u8
+}
+
+// The discard bytes of all sets of the list, by their numbers.
+pub(crate) fn discards(clients: [u8; 6], count: usize) -> [u8; 64]
+    requires { ⌜ Listed clients count ⌝ }
+    ensures { λ r. ⌜ Discards clients count r ⌝ }
+{
+    let end: usize = 1 << count;
+    let bits = bits_of(clients, count);
+    let mut discards = [0u8; 64];
+    let mut set: usize = 0;
+    while set < end {
+        discards[set] = discard_of(bits, count, set);
+        set += 1;
+    }
+    discards
 }

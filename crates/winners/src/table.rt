@@ -1,14 +1,14 @@
-// v and σ of every set of a list of clients: questions 1 to 5 once, what the search looks up made once, and each set weighed once.
+// v and σ of every set of a list of clients: questions 1 to 5 once, and each set weighed once.
 use crate::lists;
-use crate::numbers;
-use crate::setup;
-use crate::value;
 use book::layout;
 ghost use mathlib.Core.Path.{_≡_};
-ghost use Rattle.book.specs.Layout.{book-in};
-ghost use Rattle.combinations.specs.Greatest.{greatest};
-ghost use Rattle.winners.specs.Needs.{Listed, Prepared};
-ghost use Rattle.winners.specs.Surpluses.{surplus-table, Surpluses-are};
+ghost use mathlib.Core.Bool.{cond};
+ghost use Prim.Native.Nat.{_≤_};
+ghost use lib.Dec.{eqb};
+ghost use lib.ListN.{replicate};
+ghost use Rattle.book.specs.Questions.{book-refusal};
+ghost use Rattle.winners.specs.Needs.{Differences};
+ghost use Rattle.winners.specs.Surpluses.{Surpluses-are};
 
 #[repr(C)]
 pub struct SigmaTable {
@@ -17,78 +17,63 @@ pub struct SigmaTable {
     pub sigma: [u64; 64],
 }
 
-// σ by set number, by what the search looks up.
-fn filled(
-    book: &[u8],
-    clients: [u8; 6],
-    count: usize,
-    v: u64,
-    weights: &[u64; 48],
-    links: &[usize; 56],
-    most: &[u64; 7],
-) -> [u64; 64]
-    requires { ⌜ Listed (now book) clients count ⌝ }
-    requires { ⌜ v ≡ greatest (book-in (now book)) 0 ⌝ }
-    requires { ⌜ Prepared (now book) (now weights) (now links) (now most) ⌝ }
-    ensures { λ r. ⌜ r ≡ surplus-table (now (book .entry)) clients count ⌝ }
+// σ by set number, from the values without each set.
+fn sigma_of(count: usize, values: [u64; 64]) -> [u64; 64]
+    requires { ⌜ count ≤ 6 ⌝ }
+    ensures { λ r. ⌜ Differences values count r ⌝ }
 {
     let end: usize = 1 << count;
+    let v = values[0];
     let mut sigma = [0u64; 64];
-    let mut set: usize = 1;
+    let mut set: usize = 0;
     while set < end {
-        let discard = lists::discard_of(clients, count, set);
-        sigma[set] = numbers::excess(v, value::value_by(book, discard, weights, links, most));
+        sigma[set] = numbers::excess(v, values[set]);
         set += 1;
     }
     sigma
 }
 
-// σ by set number, for v the greatest value of a sound book and a good list of its clients.
-fn table(book: &[u8], clients: [u8; 6], count: usize, v: u64) -> [u64; 64]
-    requires { ⌜ Listed (now book) clients count ⌝ }
-    requires { ⌜ v ≡ greatest (book-in (now book)) 0 ⌝ }
-    ensures { λ r. ⌜ r ≡ surplus-table (now (book .entry)) clients count ⌝ }
+// A refusal has its number and zeros.
+fn refused(number: u32) -> SigmaTable
+    ensures { λ r. ⌜ (r .number ≡ number) × (r .value ≡ 0) × (r .sigma ≡ replicate 64 0) ⌝ }
 {
-    let k = layout::kinds(book) as usize;
-    let m = layout::bids(book) as usize;
-    let from = layout::bids_place(book) as usize;
-    let weights = setup::weights(book, k, m, from);
-    let links = setup::links(book, k, m, from);
-    let most = setup::largest(book, k, m, from, &weights);
-    filled(book, clients, count, v, &weights, &links, &most)
+    SigmaTable {
+        number,
+        value: 0,
+        sigma: [0; 64],
+    }
+}
+
+// The number for a list that is none: the book's own refusal comes first.
+fn unlisted(book: &[u8]) -> u32
+    ensures { λ r. ⌜ r ≡ cond (eqb (book-refusal (now (book .entry))) 0) 16 (book-refusal (now (book .entry))) ⌝ }
+{
+    let number = questions::refusal(book);
+    if 0 < number {
+        return number as u32;
+    }
+    16
 }
 
 pub fn surpluses(book: &[u8], clients: [u8; 6], count: usize) -> SigmaTable
     ensures { λ r. ⌜ Surpluses-are (now (book .entry)) clients count (r .number) (r .value) (r .sigma) ⌝ }
 {
-    let refused = questions::refusal(book);
-    if 0 < refused {
-        return SigmaTable {
-            number: refused as u32,
-            value: 0,
-            sigma: [0; 64],
-        };
+    if !lists::is_rising(clients, count, 6) {
+        return refused(unlisted(book));
     }
-    if 6 < count {
-        return SigmaTable {
-            number: 16,
-            value: 0,
-            sigma: [0; 64],
-        };
+    let found = values::values_of(book, lists::discards(clients, count), 1 << count);
+    if 0 < found.number {
+        return refused(found.number);
     }
     let n = layout::clients(book) as usize;
     if !lists::is_rising(clients, count, n) {
-        return SigmaTable {
-            number: 16,
-            value: 0,
-            sigma: [0; 64],
-        };
+        return refused(16);
     }
-    let v = value::value_without(book, 0);
-    let sigma = table(book, clients, count, v);
+    let values = found.values;
+    let sigma = sigma_of(count, values);
     SigmaTable {
         number: 0,
-        value: v,
+        value: values[0],
         sigma,
     }
 }

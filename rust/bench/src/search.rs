@@ -1,65 +1,78 @@
-//! The same search in Rust, with its bounds checks: links, ceilings and weights once, then the clients left, from a floor.
+//! The same search in Rust, with its bounds checks: links, ceilings, weights and hours once, then the clients left, from a floor. Hours of
+//! up to four kinds are one number, a lane of 16 bits for each; what is left has a guard bit above each lane's byte, which is gone from the
+//! difference where more is asked than is left.
 
 use crate::questions;
-use crate::shape::{fits, rest, Shape};
+use crate::shape::Shape;
 
-/// What the search looks up, whoever is discarded.
+const NONE: usize = 48;
+const GUARDS: u64 = 0x0100_0100_0100_0100;
+
+/// What the search looks up, whoever is discarded. Clients are numbered by how many there are from each to the sixth: the turns left.
 struct Lookups {
     weights: [u64; 48],
+    hours: [u64; 48],
     links: [usize; 56],
     most: [u64; 7],
 }
 
-fn look_up(s: &Shape) -> Lookups {
-    let mut weights = [0; 48];
-    let mut links = [s.bids; 56];
-    let mut most = [0; 7];
-    for i in (0..s.bids).rev() {
-        let at = s.place(i);
-        let client = s.book[at] as usize;
-        weights[i] = u64::from(s.amount(at));
-        links[i] = links[48 + client];
-        links[48 + client] = i;
-        most[client] = most[client].max(weights[i]);
-    }
-    Lookups { weights, links, most }
+fn in_lanes(hours: &[u8]) -> u64 {
+    hours.iter().rev().fold(0, |lanes, &hours| lanes << 16 | u64::from(hours))
 }
 
-/// For each client the sum of the largest weights of the clients that stay, from it on.
-fn ceilings(s: &Shape, discard: u8, most: &[u64; 7]) -> Tops {
-    let mut tops = [0; 8];
-    for c in (1..=s.clients).rev() {
-        let own = if s.stays(c, discard) { most[c] } else { 0 };
-        tops[c] = tops[c + 1] + own;
+fn look_up(s: &Shape) -> Lookups {
+    let mut l = Lookups { weights: [0; 48], hours: [0; 48], links: [NONE; 56], most: [0; 7] };
+    for i in (0..s.bids).rev() {
+        let at = s.place(i);
+        let turn = 7 - s.book[at] as usize;
+        l.weights[i] = u64::from(s.amount(at));
+        l.hours[i] = in_lanes(s.hours(at));
+        l.links[i] = l.links[48 + turn];
+        l.links[48 + turn] = i;
+        l.most[turn] = l.most[turn].max(l.weights[i]);
+    }
+    for (client, &status) in s.statuses().iter().enumerate() {
+        if status != 0 {
+            l.most[6 - client] = 0;
+        }
+    }
+    l
+}
+
+/// By the clients left, the sum of the largest weights of those that stay.
+fn ceilings(discard: u8, most: &[u64; 7]) -> Tops {
+    let mut tops = [0; 7];
+    for turn in 1..7 {
+        let own = if (discard >> (6 - turn)) & 1 == 0 { most[turn] } else { 0 };
+        tops[turn] = tops[turn - 1] + own;
     }
     tops
 }
 
-type Tops = [u64; 8];
+type Tops = [u64; 7];
 
-fn search(s: &Shape, l: &Lookups, tops: &Tops, ahead: usize, client: usize, left: [u8; 4], floor: u64) -> u64 {
-    if ahead == 0 || tops[client] <= floor {
+fn search(l: &Lookups, tops: &Tops, ahead: usize, left: u64, floor: u64) -> u64 {
+    if tops[ahead] <= floor {
         return floor;
     }
-    let ceiling = tops[client + 1];
+    let ceiling = tops[ahead - 1];
     let mut top = floor;
-    let mut i = if ceiling < tops[client] { l.links[48 + client] } else { s.bids };
-    while i < s.bids {
+    let mut i = if ceiling < tops[ahead] { l.links[48 + ahead] } else { NONE };
+    while i < NONE {
         let weight = l.weights[i];
-        let at = s.place(i);
-        if top < weight + ceiling && fits(s.hours(at), &left) {
-            let after = rest(s.hours(at), left);
-            let more = search(s, l, tops, ahead - 1, client + 1, after, top.saturating_sub(weight));
+        let after = left - l.hours[i];
+        if top < weight + ceiling && after & GUARDS == GUARDS {
+            let more = search(l, tops, ahead - 1, after, top.saturating_sub(weight));
             top = top.max(weight + more);
         }
         i = l.links[i];
     }
-    search(s, l, tops, ahead - 1, client + 1, left, top)
+    search(l, tops, ahead - 1, left, top)
 }
 
 fn greatest_by(shape: &Shape, lookups: &Lookups, discard: u8) -> u64 {
-    let tops = ceilings(shape, discard, &lookups.most);
-    search(shape, lookups, &tops, shape.clients, 1, shape.supply(), 0)
+    let tops = ceilings(discard, &lookups.most);
+    search(lookups, &tops, 6, in_lanes(&shape.supply()) + GUARDS, 0)
 }
 
 /// The greatest value with clients discarded.

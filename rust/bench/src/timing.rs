@@ -45,10 +45,14 @@ fn times_in_turn(work: &Work) -> u32 {
 pub struct Rounds(Vec<Vec<f64>>);
 
 impl Rounds {
-    /// At least twelve rounds, however long the works are.
+    /// At least twelve rounds, however long the works are. Before each turn the work has one that does not count: else a work would gain
+    /// where the one before it runs the same code, of which the processor has then learnt the branches.
     pub fn of(works: &[Work]) -> Rounds {
         let times: Vec<u32> = works.iter().map(times_in_turn).collect();
-        let once = |(work, &times): (&Work, &u32)| work(times).as_secs_f64() / f64::from(times);
+        let once = |(work, &times): (&Work, &u32)| {
+            work(times);
+            work(times).as_secs_f64() / f64::from(times)
+        };
         let start = Instant::now();
         let mut rounds = Vec::new();
         while rounds.len() < 12 || start.elapsed() < BUDGET * works.len() as u32 {

@@ -90,7 +90,7 @@ fn surpluses_are_laid_out_as_in_the_source() {
 #[test]
 fn prices_are_laid_out_as_in_the_source() {
     let declared = declared!(Prices { number: u32, w: u32, q: u32, prices: [u64; 6] });
-    assert_eq!(declared, expected(&source("judge/src/lib.rt"), "Prices"));
+    assert_eq!(declared, expected(&source("prices/src/lib.rt"), "Prices"));
 }
 
 #[test]

@@ -1,10 +1,9 @@
 -- `judge::judge_sheet` meets its contract. Assumes nothing.
 use borrow.Author.Needs.{needs}
 use mathlib.Core.Path.{_∙_}
-use Prim.Native.Nat.{_-_}
 use native.Mathlib.Omega.{arith}
-use lib.ListN.{length}
-use Rattle.judge.proofs.Judging.{judgement, refused-book, refused-form, refused-sheet, accepted-sheet}
+use Rattle.judge.proofs.Judging.{judgement, refused-book, refused-form, refused-sheet, accepted-read}
+use Rattle.judge.proofs.Reading.{read-few}
 use Rattle.judge.proofs.Parts.{form-no, form-yes, accepted-q}
 use Rattle.combinations.proofs.Refusals.{refusal-none}
 use Rattle.book.proofs.Soundness.{sound}
@@ -28,18 +27,21 @@ number-of-requires c κs = form-yes _ _ _ _ (refusal-none (c .before .before .be
 
 returns-3 : tie.Need-returns-3
 returns-3 c =
-    let r = form-yes _ _ _ _ (refusal-none (c .before .before .before .before .before .before .before .before .before .before .before .before .refusal .ensures) (c .before .before .before .before .before .before .before .before .before .before .before .if1 .left)) (c .before .before .before .before .before .before .before .before .before .before .length .ensures) (c .before .before .before .before .before .before .before .before .before .clients .ensures) (c .before .before .before .before .before .before .before .read .ensures) (c .before .before .before .if2 .left) in
+    let r = number-of-requires (c .before .before .before) (c .before .before .number-of .lifetimes) in
     judgement _ _ (c .refused3 .ensures ∙ refused-sheet _ (r .refusal) (r .form) _ (c .before .before .number-of .ensures) (c .before .if3 .taken))
 
-accepted-requires : tie.Need-accepted-requires
-accepted-requires c κs =
-    let r = form-yes _ _ _ _ (refusal-none (c .before .before .before .before .before .before .before .before .before .before .before .refusal .ensures) (c .before .before .before .before .before .before .before .before .before .before .if1 .left)) (c .before .before .before .before .before .before .before .before .before .length .ensures) (c .before .before .before .before .before .before .before .before .clients .ensures) (c .before .before .before .before .before .before .read .ensures) (c .before .before .if2 .left) in
-    (r, accepted-q _ _ _ _ r (c .before .number-of .ensures) (c .if3 .left))
+cast-accepted : tie.Need-cast-accepted
+cast-accepted c = omega (arith, read-few _ _ _ (number-of-requires (c .before .before .before .before) (c .before .before .before .number-of .lifetimes)))
+
+cast-accepted-2 : tie.Need-cast-accepted-2
+cast-accepted-2 c =
+    let r = number-of-requires (c .before .before .before .before .before) (c .before .before .before .before .number-of .lifetimes) in
+    omega (arith, accepted-q _ _ _ _ r (c .before .before .before .before .number-of .ensures) (c .before .before .before .if3 .left))
 
 returns-4 : tie.Need-returns-4
 returns-4 c =
-    let r = form-yes _ _ _ _ (refusal-none (c .before .before .before .before .before .before .before .before .before .before .before .before .refusal .ensures) (c .before .before .before .before .before .before .before .before .before .before .before .if1 .left)) (c .before .before .before .before .before .before .before .before .before .before .length .ensures) (c .before .before .before .before .before .before .before .before .before .clients .ensures) (c .before .before .before .before .before .before .before .read .ensures) (c .before .before .before .if2 .left) in
-    judgement _ _ (c .accepted .ensures ∙ accepted-sheet _ (r .refusal) (r .form) _ (c .before .before .number-of .ensures) (c .before .if3 .left))
+    accepted-read _ _ _ _ (number-of-requires (c .before .before .before .before .before .before) (c .before .before .before .before .before .number-of .lifetimes))
+    (c .accepted .ensures) _ (c .before .before .before .before .before .number-of .ensures) (c .before .before .before .before .if3 .left)
 
 pub judge-sheet-spec : {M : Type 1} → statement M
 judge-sheet-spec =
@@ -61,5 +63,7 @@ judge-sheet-spec =
     number-of-requires
     (λ c κs. search needs)
     returns-3
-    accepted-requires
+    cast-accepted
+    cast-accepted-2
+    (λ c κs. search needs)
     returns-4)

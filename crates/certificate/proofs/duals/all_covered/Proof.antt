@@ -26,7 +26,7 @@ loop-holds c = (search needs, refl)
 
 held-requires : tie.Need-held-requires Inv-loop μ-loop
 held-requires c κs =
-    record { few = start c .pre .few; inside = c .loop-test .taken; most = λ L p l. omega (arith, start c .pre .Y-most L p l) }
+    record { few = start c .pre .few; inside = omega arith; most = λ L p l. omega (arith, start c .pre .Y-most L p l) }
 
 add-both : tie.Need-add-both Inv-loop μ-loop
 add-both c = omega (arith, start (c .before) .pre .Z-most (c .before .before .loop .j) (c .before .loop-test .taken))

@@ -1,10 +1,10 @@
 -- `nearest::all_balanced` meets its contract. The invariant: `ok` is the test of the winners passed. Assumes nothing.
 use mathlib.Core.Path.{_≡_, refl, _∙_}
-use Prim.Native.Nat.{_-_, _^_, _≤_, _<_}
+use Prim.Native.Nat.{_-_, _*_, _%_, _^_, _≤_, _<_}
 use Rattle.sets.specs.Sets.{single}
 use Rattle.pricing.specs.Questions.{every}
 use Rattle.ranges.specs.Figures.{at}
-use Rattle.ranges.proofs.Steps.{power-most, every-more, every-end}
+use Rattle.ranges.proofs.Steps.{shifted, power-most, every-more, every-end}
 use lib.Dec.{eqb}
 use lib.Pow.{pow-lt}
 use Rattle.certificate.proofs.Balance.{claimed, carried, stationary-balance}
@@ -22,29 +22,37 @@ abbrev μ-loop : tie.MeasureT-loop
 abbrev start : (c : tie.In-loop Inv-loop μ-loop) → tie.Start Inv-loop μ-loop
 start c = c .before .before .before .before .before .before
 
--- the set of the winner at hand is one of the sets
-alone : (c : tie.After-power Inv-loop μ-loop) → c .power .result < 2 ^ start (c .before) .args .f .w
-alone c = omega (arith, pow-lt (c .before .loop-test .taken))
+-- the number of the winner's set is 2^j, and one of the sets
+alone : (c : tie.In-loop Inv-loop μ-loop) →
+    (1 * 2 ^ c .before .loop .j % 2 ^ 64 ≡ 2 ^ c .before .loop .j) × (1 ≤ 1 * 2 ^ c .before .loop .j % 2 ^ 64)
+    × (1 * 2 ^ c .before .loop .j % 2 ^ 64 ≤ 64)
+alone c = shifted (c .before .loop .j) (omega (arith, start c .pre .ranges .few))
+
+among : (c : tie.In-loop Inv-loop μ-loop) → 1 * 2 ^ c .before .loop .j % 2 ^ 64 < 2 ^ start c .args .f .w
+among c = omega (arith, alone c .0, pow-lt (c .loop-test .taken))
 
 loop-holds : tie.Need-loop-holds Inv-loop μ-loop
 unfolding every
 loop-holds c = (search needs, refl)
 
-power-requires : tie.Need-power-requires Inv-loop μ-loop
-power-requires c κs = omega (arith, start c .pre .ranges .few)
+shl-alone : tie.Need-shl-alone Inv-loop μ-loop
+shl-alone c = omega (arith, start c .pre .ranges .few)
+
+mul-balanced : tie.Need-mul-balanced Inv-loop μ-loop
+mul-balanced c = omega (arith, alone c .2)
 
 array-read-balanced : tie.Need-array-read-balanced Inv-loop μ-loop
 array-read-balanced c =
-    let p = start (c .before) in
-    omega (arith, alone c, power-most (p .args .f .w) (p .pre .ranges .few))
+    let p = start c in
+    omega (arith, among c, power-most (p .args .f .w) (p .pre .ranges .few))
 
 balanced-requires : tie.Need-balanced-requires Inv-loop μ-loop
 balanced-requires c κs =
-    let p = start (c .before .before) .pre in
-    let l = c .before .before .loop-test .taken in
+    let p = start (c .before) .pre in
+    let l = c .before .loop-test .taken in
     record {
       q-most = p .ranges .q-most;
-      σ-most = p .σ-most _ (c .before .power .ensures .1) (alone (c .before));
+      σ-most = p .σ-most _ (alone (c .before) .1) (among (c .before));
       x-most = p .ranges .X-most _ l;
       G-most = p .ranges .G-most;
       u-most = c .held .ensures .1;
@@ -56,8 +64,8 @@ loop-again : tie.Need-loop-again Inv-loop μ-loop
 unfolding claimed carried single
 loop-again c = (
   search needs,
-  every-more _ _ (c .both .ensures) (c .before .before .before .before .before .loop .inv .1)
-      (c .before .balanced .ensures ∙ rw (c .before .before .before .power .ensures .0, c .before .before .held .ensures .0)),
+  every-more _ _ (c .both .ensures) (c .before .before .before .before .loop .inv .1)
+      (c .before .balanced .ensures ∙ rw (alone (c .before .before .before) .0, c .before .before .held .ensures .0)),
 )
 
 returns : tie.Need-returns Inv-loop μ-loop
@@ -73,8 +81,8 @@ all-balanced-spec =
     Inv-loop
     μ-loop
     loop-holds
-    power-requires
-    (λ c. search needs)
+    shl-alone
+    mul-balanced
     array-read-balanced
     (λ c. search needs)
     (λ c. search needs)

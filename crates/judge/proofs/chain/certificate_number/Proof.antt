@@ -1,13 +1,8 @@
 -- `judge::chain::certificate_number` meets its contract. Assumes nothing.
 use borrow.Author.Needs.{needs}
-use Prim.Native.Nat.{_-_}
-use Rattle.judge.proofs.Reading.{read-few}
 use Rattle.judge.proofs.Limits.{ten-no, later}
 use Rattle.judge.proofs.chain.certificate_number.Statement.{statement}
 use Rattle.judge.proofs.chain.certificate_number.Tie as tie
-
-reserves-of-requires : tie.Need-reserves-of-requires
-reserves-of-requires c κs = read-few _ _ _ (c .before .before .pre .read)
 
 returns : tie.Need-returns
 returns c = ten-no _ _ _ _ (c .before .before .before .before .before .pre) (c .before .before .reserves-of .result) (c .before .before .reserves-of .ensures) _ (c .before .reserve .ensures) (c .if1 .taken)
@@ -17,4 +12,4 @@ returns-2 c = later _ _ _ _ (c .before .before .before .before .before .before .
 
 pub certificate-number-spec : {M : Type 1} → statement M
 certificate-number-spec =
-    tie.close (tie.spec reserves-of-requires (λ c κs. search needs) returns (λ c κs. search needs) returns-2)
+    tie.close (tie.spec (λ c κs. search needs) (λ c κs. search needs) returns (λ c κs. search needs) returns-2)

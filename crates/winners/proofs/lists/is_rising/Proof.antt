@@ -1,11 +1,11 @@
 -- `winners::lists::is_rising` meets its contract. The loop keeps the answer so far with that of the clients left. Assumes nothing.
 use borrow.Author.Needs.{needs}
+use borrow.Author.Tests.{le-leb, lt-leb}
 use mathlib.Core.Path.{_≡_, refl}
 use mathlib.Core.Bool.{_&&_}
 use Prim.Native.Nat.{_-_, _≤_}
-use lib.ListN.{length, take}
+use lib.ListN.{length, take, drop}
 use Rattle.winners.specs.Surpluses.{rising-to}
-use lib.ListN.{drop}
 use Rattle.sets.proofs.Prefixes.{prefix-next, prefix-done}
 use Rattle.winners.proofs.Rising.{rising-next, rising-done}
 use Rattle.winners.proofs.lists.is_rising.Statement.{statement}
@@ -18,22 +18,25 @@ Inv-loop count n clients ok₀ last₀ i₀ ok last i =
 abbrev μ-loop : tie.MeasureT-loop
 μ-loop count n clients ok₀ last₀ i₀ ok last i = count - i
 
+returns : tie.Need-returns Inv-loop μ-loop
+returns c = rw (lt-leb (c .before .args .count) 6 (c .if1 .taken))
+
 loop-holds : tie.Need-loop-holds Inv-loop μ-loop
 loop-holds c = (search needs, refl, search needs)
 
 loop-again : tie.Need-loop-again Inv-loop μ-loop
 loop-again c =
     let l = c .before .before .before .loop in
-    let a = c .before .before .before .before .args in (
+    let a = c .before .before .before .before .before .args in (
       search needs,
       rising-next (a .n) (l .last) _ _ _ (l .ok) _ _ _ (prefix-next (a .t1) (a .count) (search needs) (l .i) (search needs)) (c .both2 .ensures) (c .before .both .ensures) (l .inv .1),
       search needs,
     )
 
-returns : tie.Need-returns Inv-loop μ-loop
-returns c =
-    let a = c .before .before .args in
-    rising-done _ _ _ _ _ (prefix-done (a .t1) (a .count) (search needs) _ (c .loop-test .left)) (c .before .loop .inv .1)
+returns-2 : tie.Need-returns-2 Inv-loop μ-loop
+returns-2 c =
+    let a = c .before .before .before .args in
+    rw (le-leb (a .count) 6 (c .before .before .if1 .left)) (rising-done _ _ _ _ _ (prefix-done (a .t1) (a .count) (search needs) _ (c .loop-test .left)) (c .before .loop .inv .1))
 
 pub is-rising-spec : {M : Type 1} → statement M
 is-rising-spec =
@@ -41,6 +44,7 @@ is-rising-spec =
     (tie.spec
     Inv-loop
     μ-loop
+    returns
     loop-holds
     (λ c. search needs)
     (λ c. search needs)
@@ -49,4 +53,4 @@ is-rising-spec =
     (λ c. search needs)
     (λ c. search needs)
     loop-again
-    returns)
+    returns-2)

@@ -1,0 +1,2 @@
+-- Hours as one number.
+pub mod Lanes

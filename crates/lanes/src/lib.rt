@@ -1,0 +1,44 @@
+// The hours of up to four kinds in one number: a lane of 16 bits for each kind, the first kind lowest. What is left has a guard bit (256)
+// above each lane's byte, so that the hours asked are taken by one subtraction, and fit if and only if every guard is still there.
+//
+// What a client may cite: `packed`, the hours asked; `guarded`, the hours left; `fit`, whether every guard is there. Each takes anything,
+// asks nothing of its caller, and its contract gives its result as a value. The search of the layer above cites them, with the laws of proofs/.
+ghost use mathlib.Core.Path.{_≡_};
+ghost use mathlib.Core.Bool.{cond};
+ghost use Prim.Native.Nat.{_≤_};
+ghost use lib.Bits.{bitAnd};
+ghost use lib.Dec.{leb, eqb};
+ghost use lib.ListN.{take};
+ghost use Rattle.lanes.specs.Lanes.{packed, guarded, Bytes};
+
+// What one kind's lane holds: its hours, or 0 past the first k kinds.
+fn lane(k: usize, kind: usize, hours: u8) -> u64
+    ensures { λ r. ⌜ (r ≡ cond (leb k kind) 0 hours) × (r ≤ 255) ⌝ }
+{
+    if k <= kind { 0 } else { hours as u64 }
+}
+
+// The hours asked of the first k kinds.
+pub fn packed(k: usize, asked: [u8; 4]) -> u64
+    ensures { λ r. ⌜ (r ≡ packed (take k asked)) × (r ≤ 71777214294589695) × Bytes (take k asked) ⌝ }
+{
+    let a = lane(k, 0, asked[0]);
+    let b = lane(k, 1, asked[1]);
+    let c = lane(k, 2, asked[2]);
+    let d = lane(k, 3, asked[3]);
+    a + b * 65536 + c * 4294967296 + d * 281474976710656
+}
+
+// The hours left, each lane with its guard.
+pub fn guarded(left: [u8; 4]) -> u64
+    ensures { λ r. ⌜ (r ≡ guarded 4 left) × (72058693566333184 ≤ r) × Bytes left ⌝ }
+{
+    packed(4, left) + 72058693566333184
+}
+
+// Whether every guard is there.
+pub fn fit(after: u64) -> bool
+    ensures { λ r. ⌜ r ≡ eqb (bitAnd after 72058693566333184) 72058693566333184 ⌝ }
+{
+    after & 72058693566333184 == 72058693566333184
+}

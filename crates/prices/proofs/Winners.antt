@@ -1,0 +1,50 @@
+-- Arrays with an entry for each of w winners, of whom six count, against the definitions. Cited by the proofs of `reserves_of` and
+-- `prices_of`. Assumes nothing.
+use mathlib.Core.Path.{_≡_, sym, ap, _∙_}
+use mathlib.Core.Bool.{Bool, cond}
+use mathlib.Core.List.{List}
+use Prim.Native.Nat.{ℕ, _*_, _-_, _<_, min}
+use native.Mathlib.Decide.{decLt}
+use native.Mathlib.Omega.{arith}
+use borrow.Author.Tests.{lt-ltb, le-ltb}
+use lib.ListN.{length, getD, take, length-take}
+use lib.Seq.{getD-take, ext-getD}
+use Rattle.sets.specs.Tables.{tabulate}
+use Rattle.sets.proofs.Tables.{tabulate-length, tabulate-at}
+use Rattle.sets.proofs.Filled.{Filled}
+use Rattle.book.specs.Book.{Book, bid-at, reserves-of}
+use Rattle.combinations.specs.Combinations.{amount-of}
+use Rattle.demands.specs.Winners.{win, reserves, rho}
+use Rattle.demands.proofs.Winners.{rho-past}
+use Rattle.prices.specs.Answers.{paid}
+
+-- one bid's amount less its reserves
+rho-at : Book → (bid : ℕ) → ℕ
+rho-at b i = amount-of b i - reserves-of (bid-at b i .hours) (b .kinds)
+
+-- one price, for the amount that was read
+pub price-of : (q a a′ x v : ℕ) → v ≡ q * a - x → a ≡ a′ → v ≡ q * a′ - x
+price-of q a a′ x v e f = e ∙ ap (λ (z : ℕ). q * z - x) f
+
+module _ (b : Book) (bids : List ℕ) (w : ℕ) (long : length bids ≡ 6) (xs : List ℕ) where
+  -- ρ of the winners
+  pub rho-filled : Filled 6 (rho b bids) (min w 6) xs → (j : ℕ) → getD xs j 0 ≡ rho b (take w bids) j
+  unfolding rho win reserves rho-at
+  rho-filled f j =
+      elim (decLt j (min w 6)) [
+        | yes l ↦ f .below j l ∙ ap (λ (i : ℕ). rho-at b i) (sym (getD-take w bids j 0 (omega arith)))
+        | no l ↦ f .above j (omega arith) ∙ sym (rho-past b (take w bids) j (omega (arith, length-take w bids)))
+      ]
+
+  -- what the winners pay
+  pub paid-filled : (q : ℕ) (x : ℕ → ℕ) → Filled 6 (λ k. q * win b bids k - x k) (min w 6) xs → xs ≡ tabulate 6 (paid b bids w q x)
+  unfolding paid
+  paid-filled q x f =
+      ext-getD 0 xs _ (f .long ∙ sym (tabulate-length 6 _))
+      (λ k l. let m : k < 6 = omega (arith, f .long) in entry k m ∙ sym (tabulate-at 6 (paid b bids w q x) k 0 m))
+    where
+      entry : (k : ℕ) → k < 6 → getD xs k 0 ≡ paid b bids w q x k
+      entry k l = elim (decLt k w) [
+        | yes h ↦ f .below k (omega arith) ∙ sym (ap (λ (t : Bool). cond t (q * win b bids k - x k) 0) (lt-ltb k w h))
+        | no h ↦ f .above k (omega arith) ∙ sym (ap (λ (t : Bool). cond t (q * win b bids k - x k) 0) (le-ltb k w (omega arith)))
+      ]

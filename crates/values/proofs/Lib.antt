@@ -1,0 +1,8 @@
+-- The laws that the proofs of this crate cite.
+pub mod Placing
+pub mod Filling
+pub mod Found
+pub mod Answers
+pub mod Hours
+pub mod Ceilings
+pub mod Choices

@@ -1,0 +1,102 @@
+-- A bid at its place in the bytes, and what a sound book gives of all its bids. Cited by the proofs of src/places.rt and src/lookups.rt.
+-- Assumes nothing.
+use mathlib.Core.Path.{_≡_, sym, ap, ap₂, _∙_}
+use mathlib.Core.List.{List, [], _∷_}
+use Prim.Native.Nat.{ℕ, _+_, _*_, _-_, _≤_, _<_}
+use native.Mathlib.Nat.{mul-le-mul-right}
+use native.Mathlib.Decide.{decLt}
+use native.Mathlib.Omega.{arith}
+use lib.ListN.{length, take}
+use Rattle.book.specs.Bytes.{byte, field, bytes-at}
+use Rattle.book.specs.Book.{Bid, bid-at, client-of, no-bid}
+use Rattle.book.specs.Layout.{K-of, m-of, bids-from, bid-here, book-in}
+use Rattle.book.specs.Questions.{book-formula}
+use Rattle.book.specs.Sound.{Sound}
+use Rattle.book.proofs.Next.{bytes-length}
+use Rattle.book.proofs.Places.{bid-at-stands, bid-at-none, bids-count}
+use Rattle.lanes.specs.Lanes.{packed, Bytes}
+use Rattle.combinations.specs.Combinations.{market, amount-of}
+use Rattle.hours.proofs.Fours.{bytes-take}
+use Rattle.values.specs.Needs.{Placed, Owned, Asked}
+
+-- the bid that stands at a loop's place
+pub bid-here-at : (bs : List ℕ) (i k from at : ℕ) → k ≡ K-of bs → from ≡ bids-from bs → i < m-of bs → at ≡ from + i * (k + 5)
+    → bid-at (book-in bs) (i + 1) ≡ bid-here k at bs
+bid-here-at bs i k from at ek ef l ea =
+    bid-at-stands bs (i + 1) (omega arith) (omega arith)
+    ∙ ap₂ (λ (k p : ℕ). bid-here k p bs) (sym ek) (ap₂ (λ (a b : ℕ). a + (i + 1 - 1) * (b + 5)) (sym ef) (sym ek) ∙ ap (λ (j : ℕ). from + j * (k + 5)) (omega arith) ∙ sym ea)
+
+module _ (bs : List ℕ) (k at i : ℕ) (e : bid-at (book-in bs) (i + 1) ≡ bid-here k at bs) where
+  pub owner-here : client-of (book-in bs) (i + 1) ≡ byte at bs
+  unfolding client-of bid-here
+  owner-here = ap (λ (x : Bid). x .client) e
+
+  pub hours-here : bid-at (book-in bs) (i + 1) .hours ≡ bytes-at k (at + 1) bs
+  unfolding bid-here
+  hours-here = ap (λ (x : Bid). x .hours) e
+
+  pub amount-here : amount-of (book-in bs) (i + 1) ≡ field (at + (k + 1)) 4 bs
+  unfolding amount-of bid-here
+  amount-here = ap (λ (x : Bid). x .amount) e
+
+-- the counts of a sound book, and its bids' clients
+pub placed-sound : (bs : List ℕ) (k m from : ℕ) → Sound bs → k ≡ K-of bs → m ≡ m-of bs → from ≡ bids-from bs → Placed bs k m from
+unfolding bids-from book-formula
+placed-sound bs k m from s ek em ef = record {
+  kinds = ek;
+  kinds-few = omega (arith, s .K-high);
+  bids = em;
+  bids-few = omega (arith, s .m-high);
+  place = ef;
+  place-near = omega (arith, s .K-high, s .n-high);
+  inside = rw (ek, em, ef) (omega (arith, s .whole, s .formula));
+}
+
+-- a bid of the book stands inside its bytes
+pub bid-inside : (bs : List ℕ) (k m from i : ℕ) → Placed bs k m from → i < m → from + i * (k + 5) + (k + 5) ≤ length bs
+bid-inside bs k m from i p l = omega (arith, p .inside, mul-le-mul-right (k + 5) l)
+
+-- four bytes, read one by one
+pub four-bytes : (bs : List ℕ) (at : ℕ) → (byte at bs ∷ byte (at + 1) bs ∷ byte (at + 2) bs ∷ byte (at + 3) bs ∷ []) ≡ bytes-at 4 at bs
+unfolding bytes-at
+four-bytes bs at =
+    let two : at + 1 + 1 ≡ at + 2 = omega arith in
+    let three : at + 2 + 1 ≡ at + 3 = omega arith in
+    rw (two, three)
+
+-- the clients of a sound book's bids
+pub owned-sound : (bs : List ℕ) → Sound bs → Owned (market (book-in bs))
+unfolding market client-of no-bid
+owned-sound bs s =
+    let none : (i : ℕ) → m-of bs ≤ i → client-of (book-in bs) (i + 1) ≡ 0 = λ i l. ap (λ (x : Bid). x .client) (bid-at-none bs (i + 1) (omega arith)) in
+    record {
+      few = omega (arith, bids-count bs, s .m-high);
+      low = λ i l. s .client-low (i + 1) (omega arith) (omega (arith, bids-count bs));
+      high = λ i. elim (decLt i (m-of bs)) [
+        | yes l ↦ omega (arith, s .client-high (i + 1) (omega arith) (omega arith), s .n-high)
+        | no l ↦ omega (arith, none i (omega arith))
+      ];
+      none = λ i l. none i (omega (arith, bids-count bs));
+    }
+
+-- the four bytes read of a bid, packed
+pub asked-here : (bs : List ℕ) (k at i : ℕ) (row : List ℕ) (v : ℕ) → k ≤ 4 → bid-at (book-in bs) (i + 1) ≡ bid-here k at bs → row ≡ bytes-at 4 (at + 1) bs
+    → v ≡ packed (take k row) → Bytes (take k row) → Asked k (market (book-in bs) .hours (i + 1)) v
+unfolding market
+asked-here bs k at i row v l e er ev b =
+    let same : take k row ≡ bid-at (book-in bs) (i + 1) .hours
+    = ap (λ (xs : List ℕ). take k xs) er ∙ bytes-take k 4 (at + 1) bs l ∙ sym (hours-here bs k at i e) in
+    record { kinds = ap (λ (xs : List ℕ). length xs) (hours-here bs k at i e) ∙ bytes-length k (at + 1) bs; bytes = rw same at b; packs = ev ∙ ap packed same }
+
+-- whose the bid at a place is, and that it is one of the market's
+pub owner-at : (bs : List ℕ) (k m from p at c : ℕ) → Placed bs k m from → Owned (market (book-in bs)) → p < m → at ≡ from + p * (k + 5) → c ≡ byte at bs
+    → (c ≡ market (book-in bs) .owner (p + 1)) × (1 ≤ c) × (c ≤ 6) × (p < market (book-in bs) .bids)
+unfolding market
+owner-at bs k m from p at c h o l ea ec =
+    let own : c ≡ client-of (book-in bs) (p + 1) = ec ∙ sym (owner-here bs k at p (bid-here-at bs p k from at (h .kinds) (h .place) (omega (arith, h .bids)) ea)) in
+    let inside : p < market (book-in bs) .bids = omega (arith, bids-count bs, h .bids) in
+    (own, omega (arith, o .low p inside), omega (arith, o .high p), inside)
+
+pub market-bids : (bs : List ℕ) (m : ℕ) → m ≡ m-of bs → m ≡ market (book-in bs) .bids
+unfolding market
+market-bids bs m e = e ∙ sym (bids-count bs)

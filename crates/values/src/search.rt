@@ -1,0 +1,68 @@
+// The greatest value by a search on the clients left, which fall by one at each call. It leaves out what cannot beat the floor, the
+// value that is already found: by the ceilings of the clients left. The hours of a bid and the hours left are numbers of crates/lanes.
+ghost use mathlib.Core.Path.{_≡_};
+ghost use mathlib.Core.Bool.{_&&_, cond};
+ghost use mathlib.Core.List.{List};
+ghost use Prim.Native.Nat.{ℕ, _*_, _-_, _≤_, max};
+ghost use lib.Bits.{bitAnd};
+ghost use lib.Dec.{eqb, ltb};
+ghost use Rattle.market.specs.Market.{Market};
+ghost use Rattle.market.specs.Greatest.{best};
+ghost use Rattle.values.specs.Needs.{Ready, Left, Looked, Turn, weight-in};
+
+// The first bid of a client that stays, which has a ceiling above the next one's; and of one that does not none: 48.
+fn first_own(on: bool, first: u64) -> u64
+    ensures { λ r. ⌜ r ≡ cond on first 48 ⌝ }
+{
+    if on { first } else { 48 }
+}
+
+// Whether the most that a choice can come to is more than what is found.
+fn beats(most: u64, top: u64) -> bool
+    ensures { λ r. ⌜ r ≡ ltb top most ⌝ }
+{
+    top < most
+}
+
+// Whether a bid can raise the best, by the most that it can come to, and fits: no guard is missing from what it would leave.
+fn may_raise(after: u64, top: u64, most: u64) -> bool
+    ensures { λ r. ⌜ r ≡ (ltb top most && eqb (bitAnd after 72058693566333184) 72058693566333184) ⌝ }
+{
+    if beats(most, top) {
+        return lanes::fit(after);
+    }
+    false
+}
+
+// The larger of the floor and of the greatest value of the last clients (`ahead` of them) with the hours left, in whatever market the
+// array lays out. The ceilings are by the clients left, and where none is left it is 0.
+pub(crate) fn search_from(
+    ahead: usize,
+    left: u64,
+    floor: u64,
+    tops: &[u64; 7],
+    looks: &[u64; 152],
+) -> u64
+    requires { ⌜ Ready (now looks) ⌝ }
+    requires { ⌜ Turn ahead left floor (now tops) ⌝ }
+    ensures { λ r. ⌜ r ≤ max floor (ahead * 4294967295) ⌝ }
+    ensures { λ r. ⌜ ((m : Market) (k : ℕ) (hours : List ℕ) → Looked m k (now (looks .entry)) (now (tops .entry)) → Left k hours left → r ≡ max floor (best m (weight-in (now (looks .entry))) ahead (7 - ahead) hours)) ⌝ }
+{
+    if tops[ahead] <= floor {
+        return floor;
+    }
+    let rest = tops[ahead - 1];
+    let mut top = floor;
+    let mut i = first_own(rest < tops[ahead], looks[144 + ahead]) as usize;
+    while i < 48 {
+        let weight = looks[i];
+        let after = left - looks[48 + i];
+        if may_raise(after, top, weight + rest) {
+            let base = numbers::excess(top, weight);
+            let more = search_from(ahead - 1, after, base, tops, looks);
+            top = numbers::larger(top, weight + more);
+        }
+        i = looks[96 + i] as usize;
+    }
+    search_from(ahead - 1, left, top, tops, looks)
+}

@@ -1,0 +1,86 @@
+// Greatest values with clients discarded: questions 1 to 5, and for each discard byte the search from floor 0.
+use crate::lookups;
+use crate::search;
+use crate::tops;
+ghost use mathlib.Core.Path.{_≡_};
+ghost use Prim.Native.Nat.{_≤_};
+ghost use Rattle.book.specs.Book.{supplies};
+ghost use Rattle.book.specs.Layout.{K-of, book-in};
+ghost use Rattle.book.specs.Sound.{Sound};
+ghost use Rattle.combinations.specs.Greatest.{greatest};
+ghost use Rattle.values.specs.Needs.{Left, Prepared};
+ghost use Rattle.values.specs.Values.{values-of, Value-is, Values-are};
+
+pub struct Value {
+    pub number: u32,
+    pub value: u64,
+}
+
+pub struct Values {
+    pub number: u32,
+    pub values: [u64; 64],
+}
+
+// The greatest value of a sound book, by what the search looks up; clients that a book does not have reach nothing.
+fn value_by(book: &[u8], discard: u8, left: u64, most: &[u64; 7], looks: &[u64; 152]) -> u64
+    requires { ⌜ Sound (now book) ⌝ }
+    requires { ⌜ Left (K-of (now book)) (supplies (book-in (now book))) left ⌝ }
+    requires { ⌜ Prepared (now book) (now looks) (now most) ⌝ }
+    ensures { λ r. ⌜ (r ≡ greatest (book-in (now (book .entry))) discard) × (r ≤ 6000000) ⌝ }
+{
+    let tops = tops::tops(discard, most);
+    search::search_from(6, left, 0, &tops, looks)
+}
+
+// The greatest value of any bytes for one discard byte.
+pub fn value_of(book: &[u8], discard: u8) -> Value
+    ensures { λ r. ⌜ Value-is (now (book .entry)) discard (r .number) (r .value) ⌝ }
+{
+    let refused = questions::refusal(book);
+    if 0 < refused {
+        return Value {
+            number: refused as u32,
+            value: 0,
+        };
+    }
+    let left = lanes::guarded(hours::supply(book));
+    let made = lookups::prepare(book);
+    let looks = made.looks;
+    let most = made.most;
+    let value = value_by(book, discard, left, &most, &looks);
+    Value { number: 0, value }
+}
+
+// The values of the first of 64 discard bytes, of a sound book.
+fn each(book: &[u8], discards: [u8; 64], count: usize) -> [u64; 64]
+    requires { ⌜ Sound (now book) ⌝ }
+    ensures { λ r. ⌜ r ≡ values-of (now (book .entry)) discards count ⌝ }
+{
+    let left = lanes::guarded(hours::supply(book));
+    let made = lookups::prepare(book);
+    let looks = made.looks;
+    let most = made.most;
+    let end = numbers::smaller(count, 64);
+    let mut values = [0u64; 64];
+    let mut j: usize = 0;
+    while j < end {
+        values[j] = value_by(book, discards[j], left, &most, &looks);
+        j += 1;
+    }
+    values
+}
+
+// The greatest values of any bytes for the first of 64 discard bytes.
+pub fn values_of(book: &[u8], discards: [u8; 64], count: usize) -> Values
+    ensures { λ r. ⌜ Values-are (now (book .entry)) discards count (r .number) (r .values) ⌝ }
+{
+    let refused = questions::refusal(book);
+    if 0 < refused {
+        return Values {
+            number: refused as u32,
+            values: [0; 64],
+        };
+    }
+    let values = each(book, discards, count);
+    Values { number: 0, values }
+}
