@@ -105,7 +105,7 @@ pub record Looked (m : Market) (k : ℕ) (xs tops : List ℕ) : Type 0 where
   pub ceiling : Ceiling m xs tops
   pub some : (i : ℕ) → i < m .bids → 1 ≤ getD xs i 0
 
--- the clients left are few, so is what is already found, no guard is missing, and no client has no ceiling
+-- the clients left are few, so is what is already found, no guard is missing, and where no client is left the ceiling is 0
 pub record Turn (ahead left floor : ℕ) (tops : List ℕ) : Type 0 where
   pub clients-few : ahead ≤ 6
   pub floor-few : floor ≤ 30064771065

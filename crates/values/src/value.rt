@@ -11,11 +11,13 @@ ghost use Rattle.combinations.specs.Greatest.{greatest};
 ghost use Rattle.values.specs.Needs.{Left, Prepared};
 ghost use Rattle.values.specs.Values.{values-of, Value-is, Values-are};
 
+// One greatest value; 0 after a refusal.
 pub struct Value {
     pub number: u32,
     pub value: u64,
 }
 
+// The greatest values by place of the discard bytes; zeros past the last and after a refusal.
 pub struct Values {
     pub number: u32,
     pub values: [u64; 64],
