@@ -1,21 +1,17 @@
 -- The reserves of the kinds in an array of four, filled one by one, and the reserves of a bid's hours summed from it. Cited by the proofs
 -- of src/reserves.rt. Assumes nothing.
-use mathlib.Core.Path.{_≡_, refl, _∙_}
+use mathlib.Core.Path.{_≡_, _∙_}
 use mathlib.Core.List.{List}
 use Prim.Native.Nat.{ℕ, zero, suc, _+_, _*_, _≤_, _<_}
 use native.Mathlib.Decide.{decLt}
 use native.Mathlib.Omega.{arith}
 use lib.ListN.{getD, set, replicate, length-set, length-replicate}
 use lib.Seq.{getD-set-same, getD-set-other}
+use Rattle.sets.proofs.Filled.{zeros-at}
 use Rattle.book.specs.Bytes.{byte, bytes-at}
 use Rattle.book.specs.Book.{reserves-of}
 use Rattle.book.specs.Layout.{kind-here, kinds-in}
 use Rattle.amounts.specs.Small.{Reserves}
-
-zeros-at : (n j : ℕ) → _≡_ {A = ℕ} (getD (replicate n 0) j 0) 0
-zeros-at zero j = refl
-zeros-at (suc n) zero = refl
-zeros-at (suc n) (suc j) = zeros-at n j
 
 pub reserves-none : (bs : List ℕ) → Reserves bs 0 (replicate 4 0)
 reserves-none bs = record { long = length-replicate {A = ℕ} 4 0; below = λ j l. absurd (omega arith); above = λ j l. zeros-at 4 j }

@@ -1,16 +1,14 @@
 -- Arrays with an entry for each of w winners, of whom six count, against the definitions. Cited by the proofs of `reserves_of` and
 -- `prices_of`. Assumes nothing.
-use mathlib.Core.Path.{_≡_, sym, ap, _∙_}
-use mathlib.Core.Bool.{Bool, cond}
+use mathlib.Core.Path.{_≡_, refl, sym, ap, _∙_}
 use mathlib.Core.List.{List}
-use Prim.Native.Nat.{ℕ, _*_, _-_, _<_, min}
+use Prim.Native.Nat.{ℕ, _*_, _-_, min}
 use native.Mathlib.Decide.{decLt}
 use native.Mathlib.Omega.{arith}
-use borrow.Author.Tests.{lt-ltb, le-ltb}
 use lib.ListN.{length, getD, take, length-take}
-use lib.Seq.{getD-take, ext-getD}
+use lib.Seq.{getD-take}
 use Rattle.sets.specs.Tables.{tabulate}
-use Rattle.sets.proofs.Tables.{tabulate-length, tabulate-at}
+use Rattle.sets.proofs.Tables.{filled-table}
 use Rattle.sets.proofs.Filled.{Filled}
 use Rattle.book.specs.Book.{Book, bid-at, reserves-of}
 use Rattle.combinations.specs.Combinations.{amount-of}
@@ -39,12 +37,4 @@ module _ (b : Book) (bids : List ℕ) (w : ℕ) (long : length bids ≡ 6) (xs :
   -- what the winners pay
   pub paid-filled : (q : ℕ) (x : ℕ → ℕ) → Filled 6 (λ k. q * win b bids k - x k) (min w 6) xs → xs ≡ tabulate 6 (paid b bids w q x)
   unfolding paid
-  paid-filled q x f =
-      ext-getD 0 xs _ (f .long ∙ sym (tabulate-length 6 _))
-      (λ k l. let m : k < 6 = omega (arith, f .long) in entry k m ∙ sym (tabulate-at 6 (paid b bids w q x) k 0 m))
-    where
-      entry : (k : ℕ) → k < 6 → getD xs k 0 ≡ paid b bids w q x k
-      entry k l = elim (decLt k w) [
-        | yes h ↦ f .below k (omega arith) ∙ sym (ap (λ (t : Bool). cond t (q * win b bids k - x k) 0) (lt-ltb k w h))
-        | no h ↦ f .above k (omega arith) ∙ sym (ap (λ (t : Bool). cond t (q * win b bids k - x k) 0) (le-ltb k w (omega arith)))
-      ]
+  paid-filled q x f = filled-table 6 (λ k. q * win b bids k - x k) w (min w 6) xs refl f

@@ -1,16 +1,11 @@
 -- The answers of the greatest values, each as the record that its contract asks. Cited by the proofs of src/value.rt. Assumes nothing.
-use mathlib.Core.Path.{_≡_, sym, _∙_}
-use mathlib.Core.Bool.{cond}
+use mathlib.Core.Path.{_≡_, sym}
 use mathlib.Core.List.{List}
 use Prim.Native.Nat.{ℕ, _≤_, _<_, min}
-use native.Mathlib.Decide.{decLt}
 use native.Mathlib.Omega.{arith}
-use borrow.Author.Tests.{lt-ltb, le-ltb}
-use lib.Dec.{ltb}
 use lib.ListN.{getD, replicate}
-use lib.Seq.{ext-getD}
 use Rattle.sets.proofs.Filled.{Filled}
-use Rattle.sets.proofs.Tables.{tabulate-at, tabulate-length}
+use Rattle.sets.proofs.Tables.{filled-table}
 use Rattle.book.specs.Layout.{book-in}
 use Rattle.book.specs.Questions.{book-refusal}
 use Rattle.combinations.specs.Greatest.{greatest}
@@ -33,12 +28,4 @@ module _ (bs : List ℕ) where
   -- the array filled up to the count, or whole
   pub each-done : (ds : List ℕ) (count j : ℕ) (vs : List ℕ) → j ≡ min count 64 → Filled 64 (λ i. greatest (book-in bs) (getD ds i 0)) j vs → vs ≡ values-of bs ds count
   unfolding values-of
-  each-done ds count j vs e h =
-      ext-getD 0 vs _ (h .long ∙ sym (tabulate-length 64 _))
-      (λ i l. entry i (omega (arith, h .long)) ∙ sym (tabulate-at 64 (λ i. cond (ltb i count) (greatest (book-in bs) (getD ds i 0)) 0) i 0 (omega (arith, h .long))))
-    where
-      entry : (i : ℕ) → i < 64 → getD vs i 0 ≡ cond (ltb i count) (greatest (book-in bs) (getD ds i 0)) 0
-      entry i k = elim (decLt i j) [
-        | yes m ↦ rw (lt-ltb i count (omega arith)) (h .below i m)
-        | no m ↦ rw (le-ltb i count (omega arith)) (h .above i (omega arith))
-      ]
+  each-done ds count j vs e h = filled-table 64 (λ i. greatest (book-in bs) (getD ds i 0)) count j vs e h

@@ -4,7 +4,7 @@ use mathlib.Core.Path.{_≡_, refl, sym, ap, _∙_}
 use mathlib.Core.Bool.{Bool, true, false, cond}
 use mathlib.Core.List.{List}
 use mathlib.Core.Logic.{_≢_}
-use Prim.Native.Nat.{ℕ, _+_, _-_, _≤_, _<_, max, zero-le}
+use Prim.Native.Nat.{ℕ, _+_, _-_, _≤_, _<_, max}
 use native.Mathlib.Nat.{le-refl}
 use native.Mathlib.Decide.{ℕ-discrete}
 use native.Mathlib.Omega.{arith}
@@ -12,7 +12,7 @@ use lib.ListN.{length, getD, set, replicate, length-set, length-replicate, getD-
 use lib.Seq.{getD-set-same, getD-set-other}
 use Rattle.market.specs.Market.{Market}
 use Rattle.values.specs.Needs.{Under, Owned, Linked, Links, Asked, Laid, Largest, Ready, Topped}
-use Rattle.sets.proofs.Filled.{filled-none}
+use Rattle.sets.proofs.Filled.{zeros-at}
 
 -- an entry after a store: the stored one, or as it was
 set-cases : (P : ℕ → ℕ → Type 0) (xs : List ℕ) (p v : ℕ) → p < length xs → P p v → ((j : ℕ) → j ≢ p → P j (getD xs j 0))
@@ -22,11 +22,8 @@ set-cases P xs p v l h o j = elim (ℕ-discrete j p) [
   | no n ↦ rw (getD-set-other xs p j v 0 n) (o j n)
 ]
 
-zeros : (n j : ℕ) → _≡_ {A = ℕ} (getD (replicate n 0) j 0) 0
-zeros n j = filled-none n (λ j. 0) .above j zero-le
-
 pub under-none : (b n : ℕ) → Under b (replicate n 0)
-under-none b n j = omega (arith, zeros n j)
+under-none b n j = omega (arith, zeros-at n j)
 
 pub under-next : (b : ℕ) (xs : List ℕ) (p v : ℕ) → p < length xs → v ≤ b → Under b xs → Under b (set xs p v)
 under-next b xs p v l h u = set-cases (λ j x. x ≤ b) xs p v l h (λ j n. u j)
@@ -160,7 +157,7 @@ ready-none =
 
 pub topped-none : (on : ℕ → Bool) (most : List ℕ) → Topped on most 0 (replicate 7 0) 0
 topped-none on most =
-    record { long = length-replicate {A = ℕ} 7 0; bottom = zeros 7 0; here = zeros 7 0; rises = λ j l. absurd (omega arith); only = λ j l. absurd (omega arith); grows = λ j l. absurd (omega arith) }
+    record { long = length-replicate {A = ℕ} 7 0; bottom = zeros-at 7 0; here = zeros-at 7 0; rises = λ j l. absurd (omega arith); only = λ j l. absurd (omega arith); grows = λ j l. absurd (omega arith) }
 
 -- a sum that grows counts the client, whose part is not 0
 counted : (on : Bool) (sum most v : ℕ) → v ≡ sum + cond on most 0 → sum < v → (on ≡ true) × (1 ≤ most)

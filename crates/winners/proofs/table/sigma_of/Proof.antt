@@ -1,12 +1,12 @@
 -- `winners::table::sigma_of` meets its contract. The loop keeps the entries of the sets passed. Assumes nothing.
 use borrow.Author.Needs.{needs}
-use mathlib.Core.Path.{_≡_}
+use mathlib.Core.Path.{_≡_, _∙_}
 use Prim.Native.Nat.{_-_, _^_, _≤_}
 use native.Mathlib.Omega.{arith}
-use native.Mathlib.Decide.{decLt}
-use borrow.Author.Tests.{lt-ltb, le-ltb}
+use native.Mathlib.Nat.{le-antisymm}
 use lib.ListN.{length, getD}
 use Rattle.sets.proofs.Filled.{Filled, filled-none, filled-next}
+use Rattle.sets.proofs.Tables.{filled-entry}
 use Rattle.winners.proofs.Tables.{shl-one}
 use Rattle.winners.proofs.table.sigma_of.Statement.{statement}
 use Rattle.winners.proofs.table.sigma_of.Tie as tie
@@ -32,14 +32,8 @@ loop-again c =
 returns : tie.Need-returns Inv-loop μ-loop
 returns c =
     let l = c .before .loop in
-    let w = c .before .before .args .count in
-    record {
-      long = l .inv .4 .long;
-      each = λ L. elim (decLt L (2 ^ w)) [
-        | yes k ↦ rw (lt-ltb L (2 ^ w) k) (l .inv .4 .below L (omega (arith, c .loop-test .left, l .inv .0)))
-        | no k ↦ rw (le-ltb L (2 ^ w) (omega arith)) (l .inv .4 .above L (omega (arith, l .inv .0, l .inv .2)))
-      ];
-    }
+    let all : l .set ≡ 2 ^ c .before .before .args .count = le-antisymm (l .inv .2) (c .loop-test .left) ∙ l .inv .0 in
+    record { long = l .inv .4 .long; each = λ L. rw all at (filled-entry _ _ _ _ (l .inv .4) L) }
 
 pub sigma-of-spec : {M : Type 1} → statement M
 sigma-of-spec =
