@@ -34,6 +34,12 @@ true-any zero p j l h = absurd (omega arith)
 true-any (suc n) p j l h =
     elim (eq-or-lt-of-le (le-of-suc-le-suc l)) [ inl e ↦ rw (sym (ap p e) ∙ h) (or-true (any n p)) | inr m ↦ rw (true-any n p j m h) refl ]
 
+-- tests that agree below n
+pub any-ext : (n : ℕ) (p q : ℕ → Bool) → ((i : ℕ) → i < n → p i ≡ q i) → any n p ≡ any n q
+unfolding any
+any-ext zero p q h = refl
+any-ext (suc n) p q h = rw (h n (omega arith), any-ext n p q (λ i l. h i (omega arith)))
+
 -- a set picks just the clients that its bits name
 pub picked-true : (cs : List ℕ) (L c : ℕ) → picked cs L c ≡ true → (j : ℕ) × (j < length cs) × (has L j ≡ true) × (at cs j ≡ c)
 unfolding picked

@@ -19,7 +19,7 @@ max-among : (q v x : ℕ) → max (max q v) x ≡ max q (max v x)
 max-among q v x = omega arith
 
 -- a bid's worth from a floor that is lowered by its weight
-pub max-lowered : (top a x : ℕ) → max top (a + max (top - a) x) ≡ max top (a + x)
+pub max-lowered : (top a x : ℕ) → a + max (top - a) x ≡ max top (a + x)
 max-lowered top a x = omega arith
 
 module _ (m : Market) (wt : ℕ → ℕ) (c : ℕ) (ls : List ℕ) (on : List ℕ → ℕ) where

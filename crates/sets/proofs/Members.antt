@@ -4,13 +4,13 @@ use mathlib.Core.Path.{_≡_, refl, sym, ap, fun-ext, _∙_}
 use mathlib.Core.Bool.{Bool, true, false, cond, true≢false}
 use mathlib.Core.Logic.{_≢_}
 use Prim.Native.Nat.{ℕ, zero, suc, _+_, _*_, _/_, _%_, _^_, _≤_, _<_}
-use native.Mathlib.Nat.{le-trans, le-of-suc-le-suc, not-suc-le-zero, zero-div, div-one, div-eq-of-lt, pow-suc}
+use native.Mathlib.Nat.{le-trans, le-of-suc-le-suc, not-suc-le-zero, zero-div, div-one, div-eq-of-lt, one-mul, pow-suc}
 use native.Mathlib.Numerals.{one-add}
 use native.Mathlib.Omega.{arith}
 use lib.Bits as Bits
 use lib.Bits.{bitAnd}
 use lib.Dec.{eqb, eqb·zero-suc, eqb·suc-zero, eqb·suc-suc}
-use lib.Pow.{pow-pos, pow-mono, pow-lt, shr-shr}
+use lib.Pow.{high, pow-pos, pow-mono, pow-lt, shr-shr}
 use borrow.Author.Tests.{eqb-true, eqb-false, eq-eqb, ne-eqb}
 use Rattle.sets.specs.Sets.{has, single, set-of}
 
@@ -133,3 +133,19 @@ single-positive j = pow-pos j
 pub single-lt : (w j : ℕ) → j < w → single j < 2 ^ w
 unfolding single
 single-lt w j l = pow-lt l
+
+-- SETS THAT REPEAT. A set from 2 ^ j on has place j, and of the places before it those of the set that it repeats
+pub has-last : (j M : ℕ) → M < 2 ^ j → has (2 ^ j + M) j ≡ true
+unfolding has
+has-last j M l =
+    let one : (2 ^ j + M) / 2 ^ j ≡ 1 = sym (ap (λ (x : ℕ). (x + M) / 2 ^ j) (one-mul (2 ^ j))) ∙ high 1 j l in
+    ap (λ (x : ℕ). eqb (x % 2) 1) one
+
+pub has-same : (j M i : ℕ) → i < j → has (2 ^ j + M) i ≡ has M i
+has-same zero M i l = absurd (omega arith)
+has-same (suc j) M zero l =
+    let low : (2 ^ suc j + M) % 2 ≡ M % 2 = omega (arith, pow-suc 2 j) in
+    has-low (2 ^ suc j + M) ∙ ap (λ (x : ℕ). eqb x 1) low ∙ sym (has-low M)
+has-same (suc j) M (suc i) l =
+    let half : (2 ^ suc j + M) / 2 ≡ 2 ^ j + M / 2 = omega (arith, pow-suc 2 j) in
+    has-half (2 ^ suc j + M) i ∙ ap (λ (x : ℕ). has x i) half ∙ has-same j (M / 2) i (le-of-suc-le-suc l) ∙ sym (has-half M i)

@@ -22,46 +22,31 @@ use Rattle.values.specs.Needs.{Owned, Ceiling, weight-in}
 pub owned-inside : (m : Market) (c i : ℕ) → Owned m → 1 ≤ c → m .owner (i + 1) ≡ c → i < m .bids
 owned-inside m c i h l e = elim (decLt i (m .bids)) [ yes k ↦ k | no k ↦ absurd (omega (arith, h .none i (omega arith))) ]
 
-module _ (m : Market) (xs tops : List ℕ) (h : Ceiling m xs tops) (o : Owned m) where
+module _ (m : Market) (xs : List ℕ) (h : Ceiling m xs) where
   -- ceilings bound what the clients reach
-  falls : (c : ℕ) → 1 ≤ c → getD tops (7 - suc c) 0 ≤ getD tops (7 - c) 0
+  falls : (c : ℕ) → 1 ≤ c → getD xs (152 + (7 - suc c)) 0 ≤ getD xs (152 + (7 - c)) 0
   falls c l = elim (decLt c 7) [
     | yes k ↦ let e : 6 - c + 1 ≡ 7 - c = omega arith in let f : 7 - suc c ≡ 6 - c = omega arith in rw (f, ← e) (h .rises (6 - c) (omega arith))
     | no k ↦ let e : 7 - c ≡ 0 = omega arith in let f : 7 - suc c ≡ 0 = omega arith in rw (e, f) (le-refl _)
   ]
 
-  ceiling-bounds : (k c : ℕ) (ls : List ℕ) → 1 ≤ c → best m (weight-in xs) k c ls ≤ getD tops (7 - c) 0
+  ceiling-bounds : (k c : ℕ) (ls : List ℕ) → 1 ≤ c → best m (weight-in xs) k c ls ≤ getD xs (152 + (7 - c)) 0
   unfolding weight-in
   ceiling-bounds =
-      best-ceiling m (weight-in xs) (λ c. getD tops (7 - c) 0) falls
+      best-ceiling m (weight-in xs) (λ c. getD xs (152 + (7 - c)) 0) falls
       (λ i l y. let e : 7 - suc (m .owner (suc i)) ≡ 6 - m .owner (suc i) = omega arith in
       rw e (rw (add-one i) at (h .covers i l (rw (← add-one i) at y))))
 
   -- by the clients left
-  pub ceiling-left : (ahead : ℕ) (ls : List ℕ) → ahead ≤ 6 → best m (weight-in xs) ahead (7 - ahead) ls ≤ getD tops ahead 0
+  pub ceiling-left : (ahead : ℕ) (ls : List ℕ) → ahead ≤ 6 → best m (weight-in xs) ahead (7 - ahead) ls ≤ getD xs (152 + ahead) 0
   ceiling-left ahead ls l = let back : 7 - (7 - ahead) ≡ ahead = omega arith in rw back at (ceiling-bounds ahead (7 - ahead) ls (omega arith))
 
-  -- a client's ceiling is above the next one's where its bids may be taken, and only there
-  module _ (c : ℕ) (l : 1 ≤ c) where
-    pub may-above : getD tops (6 - c) 0 < getD tops (7 - c) 0 → (i : ℕ) → m .owner (i + 1) ≡ c → m .may (i + 1) ≡ true
-    may-above k i e = h .only i (owned-inside m c i o l e) (rw e k)
-
-    pub gone-level : (on : Bool) → on ≡ ltb (getD tops (6 - c) 0) (getD tops (7 - c) 0) → ((i : ℕ) → i < m .bids → 1 ≤ getD xs i 0)
-        → on ≡ false → (i : ℕ) → m .owner (i + 1) ≡ c → m .may (i + 1) ≡ false
-    gone-level on q some n i e =
-        ⊎-elim
-        (λ (y : m .may (i + 1) ≡ true). let inside = owned-inside m c i o l e in
-        let above = rw e at (h .covers i inside y) in
-        absurd (omega (arith, above, some i inside, ltb-false (getD tops (6 - c) 0) (getD tops (7 - c) 0) (sym q ∙ n))))
-        (λ (y : m .may (i + 1) ≡ false). y)
-        (either (m .may (i + 1)))
-
 -- where the ceiling is above the floor, a client is left
-pub some-left : (ahead floor : ℕ) (tops : List ℕ) → getD tops 0 0 ≡ 0 → floor < getD tops ahead 0 → 0 < ahead
-some-left zero floor tops e l = absurd (omega arith)
-some-left (suc ahead) floor tops e l = omega arith
+pub some-left : (ahead floor : ℕ) (xs : List ℕ) → getD xs 152 0 ≡ 0 → floor < getD xs (152 + ahead) 0 → 0 < ahead
+some-left zero floor xs e l = absurd (omega arith)
+some-left (suc ahead) floor xs e l = omega arith
 
 -- what is found stays small: a bid's weight, and as much again for each client after its own
-pub raised-few : (ahead floor top weight base more now : ℕ) → 0 < ahead → weight ≤ 4294967295 → now ≡ max top (weight + more) → base ≡ top - weight
+pub raised-few : (ahead floor top weight base more now : ℕ) → 0 < ahead → weight ≤ 4294967295 → now ≡ weight + more → base ≡ top - weight
     → more ≤ max base ((ahead - 1) * 4294967295) → top ≤ max floor (ahead * 4294967295) → now ≤ max floor (ahead * 4294967295)
 raised-few ahead floor top weight base more now some lw en eb lm lt = omega arith

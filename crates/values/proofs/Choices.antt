@@ -18,7 +18,7 @@ use Rattle.market.specs.Greatest.{open-to, choose, best}
 use Rattle.market.proofs.Bools.{either}
 use Rattle.market.proofs.Choose.{choose-open, choose-shut}
 use Rattle.market.proofs.Prune.{max-lowered, choose-last-pass, choose-skip}
-use Rattle.values.specs.Needs.{Owned, Linked, Turn, weight-in}
+use Rattle.values.specs.Needs.{Owned, Linked, Head, Turn, weight-in}
 
 -- the recursion at a client, for a count above 0
 pub best-at : (m : Market) (wt : ℕ → ℕ) (ahead c : ℕ) (ls : List ℕ) → 0 < ahead
@@ -27,21 +27,17 @@ unfolding best
 best-at m wt zero c ls l = absurd (omega arith)
 best-at m wt (suc k) c ls l = let e : suc k - 1 ≡ k = omega arith in rw (e, add-one c)
 
--- a client's loop is at its own bid, of a client that is on, or past the last
-pub record At-own (m : Market) (c i : ℕ) (on : Type 0) : Type 0 where
+-- a client's loop is at its own bid, of a client whose bids may be taken, or past the last
+pub record At-own (m : Market) (c i : ℕ) : Type 0 where
   pub own : i < 48 → m .owner (i + 1) ≡ c
-  pub able : i < 48 → on
+  pub able : i < 48 → (j : ℕ) → m .owner (j + 1) ≡ c → m .may (j + 1) ≡ true
 
 module _ (m : Market) (c : ℕ) where
-  pub at-own-first : (first i : ℕ) (on : Bool) (On : Type 0) → Linked m c 0 first → (on ≡ true → On) → i ≡ cond on first 48 → At-own m c i On
-  at-own-first first i on On h o e =
-      ⊎-elim
-      (λ (t : on ≡ true). let f : i ≡ first = rw t at e in rw f (record { own = h .own; able = λ l. o t }))
-      (λ (t : on ≡ false). let f : i ≡ 48 = rw t at e in record { own = λ l. absurd (omega arith); able = λ l. absurd (omega arith) })
-      (either on)
+  pub at-own-first : (i : ℕ) → Head m c i → At-own m c i
+  at-own-first i h = record { own = h .own; able = h .able }
 
-  pub at-own-next : (i j : ℕ) (On : Type 0) → i < 48 → At-own m c i On → Linked m (m .owner (i + 1)) (i + 1) j → At-own m c j On
-  at-own-next i j On l a h = record { own = λ k. h .own k ∙ a .own l; able = λ k. a .able l }
+  pub at-own-next : (i j : ℕ) → i < 48 → At-own m c i → Linked m (m .owner (i + 1)) (i + 1) j → At-own m c j
+  at-own-next i j l a h = record { own = λ k. h .own k ∙ a .own l; able = λ k. a .able l }
 
   module _ (ls : List ℕ) where
     -- another's bid is not open, and neither is one that may not be taken
@@ -54,16 +50,11 @@ module _ (m : Market) (c : ℕ) where
     shut-gone i h = rw (rw (add-one i) at h) (and-false (eqb (m .owner (suc i)) c))
 
     module _ (wt : ℕ → ℕ) (floor : ℕ) (f : List ℕ → ℕ) where
-      pub chosen-first : (first i : ℕ) (on : Bool) → Linked m c 0 first
-          → (on ≡ false → (t : ℕ) → m .owner (t + 1) ≡ c → m .may (t + 1) ≡ false)
-          → i ≡ cond on first 48 → floor ≡ choose m wt i c ls floor f
+      pub chosen-first : (i : ℕ) → Head m c i → floor ≡ choose m wt i c ls floor f
       unfolding choose
-      chosen-first first i on h o e =
+      chosen-first i h =
           sym (choose-skip m wt c ls f 0 i floor (omega arith)
-          (λ t _ l. ⊎-elim
-          (λ (y : on ≡ true). let q : i ≡ first = rw y at e in shut-other t (h .none t (omega arith) (omega arith)))
-          (λ (n : on ≡ false). elim (ℕ-discrete (m .owner (t + 1)) c) [ yes y ↦ shut-gone t (o n t y) | no y ↦ shut-other t y ])
-          (either on)))
+          (λ t _ l. elim (ℕ-discrete (m .owner (t + 1)) c) [ yes y ↦ shut-gone t (h .none t l y) | no y ↦ shut-other t y ]))
 
       pub chosen-next : (i j now : ℕ) → m .owner (i + 1) ≡ c → Linked m (m .owner (i + 1)) (i + 1) j
           → now ≡ choose m wt (i + 1) c ls floor f → now ≡ choose m wt j c ls floor f
@@ -82,10 +73,10 @@ module _ (m : Market) (c : ℕ) where
         module _ (top weight most : ℕ) (t fit : Bool) (q : top ≡ choose m wt i c ls floor f) (w : weight ≡ wt (i + 1))
             (u : t ≡ (ltb top (weight + most) && fit)) (s : fit ≡ fits (m .hours (i + 1)) ls) where
           -- the bid is taken, from a floor lowered by its weight
-          pub chosen-taken : (base more now : ℕ) → fit ≡ true → base ≡ top - weight → more ≡ max base rest → now ≡ max top (weight + more)
+          pub chosen-taken : (base more now : ℕ) → fit ≡ true → base ≡ top - weight → more ≡ max base rest → now ≡ weight + more
               → now ≡ choose m wt (i + 1) c ls floor f
           chosen-taken base more now y eb em en =
-              en ∙ ap (λ (x : ℕ). max top (weight + x)) (em ∙ ap (λ (x : ℕ). max x rest) eb) ∙ max-lowered top weight rest
+              en ∙ ap (λ (x : ℕ). weight + x) (em ∙ ap (λ (x : ℕ). max x rest) eb) ∙ max-lowered top weight rest
               ∙ ap₂ max q (ap (λ (x : ℕ). x + rest) w)
               ∙ sym (choose-open m wt c ls floor f i (open-own ∙ sym s ∙ y))
 
@@ -120,9 +111,9 @@ module _ (m : Market) (wt : ℕ → ℕ) (ahead : ℕ) where
       ∙ ap (λ (v : ℕ). max floor v) (sym (rw next at (best-at m wt ahead c ls l)))
 
 -- one client fewer
-pub turn-next : (t ahead left floor after low : ℕ) (tops : List ℕ) → ahead ≡ t → 0 < ahead → Turn ahead left floor tops → low ≤ 30064771065 → 72058693566333184 ≤ after
-    → (ahead - 1 < t) × Turn (ahead - 1) after low tops
-turn-next t ahead left floor after low tops e n w l g =
+pub turn-next : (t ahead left floor after low : ℕ) (xs : List ℕ) → ahead ≡ t → 0 < ahead → Turn ahead left floor xs → low ≤ 30064771065 → 72058693566333184 ≤ after
+    → (ahead - 1 < t) × Turn (ahead - 1) after low xs
+turn-next t ahead left floor after low xs e n w l g =
     (omega arith, record { clients-few = omega (arith, w .clients-few); floor-few = l; guards = g; tops-few = w .tops-few; bottom = w .bottom })
 
 -- the weight that stands in the array is the bid's

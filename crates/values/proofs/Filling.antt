@@ -1,7 +1,6 @@
--- What the search looks up, filled entry by entry: weights, hours, links and largest weights from the last bid back, and the sums of
--- the largest weights from the last client back. Cited by the proofs of src/lookups.rt and src/tops.rt. Assumes nothing.
-use mathlib.Core.Path.{_≡_, refl, sym, ap, _∙_}
-use mathlib.Core.Bool.{Bool, true, false, cond}
+-- What the search looks up of the bids, filled entry by entry from the last bid back: weights, hours, links, first bids and largest weights.
+-- Cited by the proofs of src/lookups.rt. Assumes nothing.
+use mathlib.Core.Path.{_≡_, _∙_}
 use mathlib.Core.List.{List}
 use mathlib.Core.Logic.{_≢_}
 use Prim.Native.Nat.{ℕ, _+_, _-_, _≤_, _<_, max}
@@ -11,22 +10,23 @@ use native.Mathlib.Omega.{arith}
 use lib.ListN.{length, getD, set, replicate, length-set, length-replicate, getD-replicate}
 use lib.Seq.{getD-set-same, getD-set-other}
 use Rattle.market.specs.Market.{Market}
-use Rattle.values.specs.Needs.{Under, Owned, Linked, Links, Asked, Laid, Largest, Ready, Topped}
-use Rattle.sets.proofs.Filled.{zeros-at}
+use Rattle.values.specs.Needs.{Owned, Linked, Firsts, Asked, Laid, Largest, Summable, Ready, Blank}
 
--- an entry after a store: the stored one, or as it was
-set-cases : (P : ℕ → ℕ → Type 0) (xs : List ℕ) (p v : ℕ) → p < length xs → P p v → ((j : ℕ) → j ≢ p → P j (getD xs j 0))
-    → (j : ℕ) → P j (getD (set xs p v) j 0)
-set-cases P xs p v l h o j = elim (ℕ-discrete j p) [
-  | yes e ↦ rw (e, getD-set-same xs p v 0 l) h
-  | no n ↦ rw (getD-set-other xs p j v 0 n) (o j n)
-]
+-- ---- no bid yet
 
-pub under-none : (b n : ℕ) → Under b (replicate n 0)
-under-none b n j = omega (arith, zeros-at n j)
+-- all entries are 48, and the lowest ceiling is 0
+abbrev pub filled : List ℕ
+filled = replicate 173 48
 
-pub under-next : (b : ℕ) (xs : List ℕ) (p v : ℕ) → p < length xs → v ≤ b → Under b xs → Under b (set xs p v)
-under-next b xs p v l h u = set-cases (λ j x. x ≤ b) xs p v l h (λ j n. u j)
+pub blank-first : (xs : List ℕ) → xs ≡ set filled 152 0 → (length xs ≡ 173) × ((j : ℕ) → j < 152 → getD xs j 0 ≡ 48) × (getD xs 152 0 ≡ 0)
+blank-first xs e =
+    let all : (j : ℕ) → j < 173 → getD filled j 0 ≡ 48 = λ j l. getD-replicate {A = ℕ} 173 j 48 0 l in
+    let long : length filled ≡ 173 = length-replicate {A = ℕ} 173 48 in
+    rw e (
+      length-set filled 152 0 ∙ long,
+      (λ j l. getD-set-other filled 152 j 0 0 (λ q. omega arith) ∙ all j (omega arith)),
+      getD-set-same filled 152 0 0 (omega arith),
+    )
 
 module _ (m : Market) (o : Owned m) where
   linked-itself : (p c : ℕ) → m .owner (p + 1) ≡ c → Linked m c p p
@@ -40,21 +40,15 @@ module _ (m : Market) (o : Owned m) where
     none = λ t l k. elim (ℕ-discrete t p) [ yes e ↦ rw e n | no o ↦ h .none t (omega arith) k ];
   }
 
-  filled-all : (j : ℕ) → j < 152 → _≡_ {A = ℕ} (getD (replicate 152 48) j 0) 48
-  filled-all j l = getD-replicate {A = ℕ} 152 j 48 0 l
+  pub laid-none : (wt : ℕ → ℕ) (k : ℕ) (xs : List ℕ) → Laid m wt k (m .bids) xs
+  laid-none wt k xs = record { weighed = λ j l n. absurd (omega arith); asked = λ j l n. absurd (omega arith); linked = λ j l n. absurd (omega arith) }
 
-  pub laid-none : (wt : ℕ → ℕ) (k : ℕ) → Laid m wt k (m .bids) (replicate 152 48)
-  laid-none wt k = record {
-    weighed = λ j l n. absurd (omega arith);
-    asked = λ j l n. absurd (omega arith);
-    linked = record {
-      next = λ j l k. absurd (omega arith);
-      first = λ c a l. rw (filled-all (144 + (7 - c)) (omega arith)) (record { after = o .few; own = λ k. absurd (omega arith); none = λ t k n e. omega (arith, o .none t k) });
-    };
-  }
+  pub firsts-none : (xs : List ℕ) → Blank xs → Firsts m (m .bids) xs
+  firsts-none xs b c a l =
+      rw (b .links (144 + (7 - c)) (omega arith)) (record { after = o .few; own = λ k. absurd (omega arith); none = λ t k n e. omega (arith, o .none t k) })
 
   -- one bid more, in front: bid p, of the client with t clients from it on
-  module _ (p t : ℕ) (l : p < m .bids) (et : t ≡ 7 - m .owner (p + 1)) (w v x : ℕ) (xs : List ℕ) (ex : x ≡ getD xs (144 + t) 0) (long : length xs ≡ 152) where
+  module _ (p t : ℕ) (l : p < m .bids) (et : t ≡ 7 - m .owner (p + 1)) (w v x u : ℕ) (xs : List ℕ) (ex : x ≡ getD xs (144 + t) 0) (long : length xs ≡ 173) where
     few : p < 48
     few = omega (arith, o .few)
 
@@ -64,126 +58,156 @@ module _ (m : Market) (o : Owned m) where
     near : (1 ≤ t) × (t ≤ 6)
     near = (omega (arith, o .high p), omega (arith, o .low p l))
 
-    -- four stores: the link, the client's first bid, the weight and the hours
-    abbrev stored : List ℕ
-    stored = set (set (set (set xs (96 + p) x) (144 + t) p) p w) (48 + p) v
+    -- five stores: the link, the client's first bid, the weight, the hours and the client's largest weight
+    abbrev linked-one : List ℕ
+    linked-one = set (set xs (96 + p) x) (144 + t) p
 
-    stored-cases : (P : ℕ → ℕ → Type 0) → P p w → P (48 + p) v → P (96 + p) x → P (144 + t) p
-        → ((j : ℕ) → j ≢ p → j ≢ 48 + p → j ≢ 96 + p → j ≢ 144 + t → P j (getD xs j 0)) → (j : ℕ) → P j (getD stored j 0)
-    stored-cases P hw hv hx hp h =
-        let (low, high) = near in
+    abbrev stored : List ℕ
+    stored = set (set (set linked-one p w) (48 + p) v) (166 + t) u
+
+    stored-long : length stored ≡ 173
+    stored-long = simp length-set long
+
+    other : (j : ℕ) → j ≢ p → j ≢ 48 + p → j ≢ 96 + p → j ≢ 144 + t → j ≢ 166 + t → getD stored j 0 ≡ getD xs j 0
+    other j a b c d e =
+        getD-set-other (set (set linked-one p w) (48 + p) v) (166 + t) j u 0 e
+        ∙ getD-set-other (set linked-one p w) (48 + p) j v 0 b
+        ∙ getD-set-other linked-one p j w 0 a
+        ∙ getD-set-other (set xs (96 + p) x) (144 + t) j p 0 d
+        ∙ getD-set-other xs (96 + p) j x 0 c
+
+    at-weight : getD stored p 0 ≡ w
+    at-weight =
         let inside = few in
-        let l1 = length-set xs (96 + p) x in
-        let l2 = length-set (set xs (96 + p) x) (144 + t) p in
-        let l3 = length-set (set (set xs (96 + p) x) (144 + t) p) p w in
-        set-cases P (set (set (set xs (96 + p) x) (144 + t) p) p w) (48 + p) v (omega arith) hv
-        (λ j n. set-cases (λ j y. j ≢ 48 + p → P j y) (set (set xs (96 + p) x) (144 + t) p) p w (omega arith) (λ _. hw)
-        (λ j k. set-cases (λ j y. j ≢ p → j ≢ 48 + p → P j y) (set xs (96 + p) x) (144 + t) p (omega arith) (λ _ _. hp)
-        (λ j q. set-cases (λ j y. j ≢ 144 + t → j ≢ p → j ≢ 48 + p → P j y) xs (96 + p) x (omega arith) (λ _ _ _. hx) (λ j a b c d. h j c d a b) j q) j k) j n)
+        getD-set-other (set (set linked-one p w) (48 + p) v) (166 + t) p u 0 (λ q. omega arith)
+        ∙ getD-set-other (set linked-one p w) (48 + p) p v 0 (λ q. omega arith)
+        ∙ getD-set-same linked-one p w 0 (omega (arith, length-set (set xs (96 + p) x) (144 + t) p, length-set xs (96 + p) x))
+
+    at-hours : getD stored (48 + p) 0 ≡ v
+    at-hours =
+        let inside = few in
+        getD-set-other (set (set linked-one p w) (48 + p) v) (166 + t) (48 + p) u 0 (λ q. omega arith)
+        ∙ getD-set-same (set linked-one p w) (48 + p) v 0 (omega (arith, length-set linked-one p w, length-set (set xs (96 + p) x) (144 + t) p, length-set xs (96 + p) x))
+
+    at-link : getD stored (96 + p) 0 ≡ x
+    at-link =
+        let inside = few in
+        let (low, high) = near in
+        getD-set-other (set (set linked-one p w) (48 + p) v) (166 + t) (96 + p) u 0 (λ q. omega arith)
+        ∙ getD-set-other (set linked-one p w) (48 + p) (96 + p) v 0 (λ q. omega arith)
+        ∙ getD-set-other linked-one p (96 + p) w 0 (λ q. omega arith)
+        ∙ getD-set-other (set xs (96 + p) x) (144 + t) (96 + p) p 0 (λ q. omega arith)
+        ∙ getD-set-same xs (96 + p) x 0 (omega arith)
+
+    at-first : getD stored (144 + t) 0 ≡ p
+    at-first =
+        let inside = few in
+        let (low, high) = near in
+        getD-set-other (set (set linked-one p w) (48 + p) v) (166 + t) (144 + t) u 0 (λ q. omega arith)
+        ∙ getD-set-other (set linked-one p w) (48 + p) (144 + t) v 0 (λ q. omega arith)
+        ∙ getD-set-other linked-one p (144 + t) w 0 (λ q. omega arith)
+        ∙ getD-set-same (set xs (96 + p) x) (144 + t) p 0 (omega (arith, length-set xs (96 + p) x))
+
+    at-most : getD stored (166 + t) 0 ≡ u
+    at-most =
+        let (low, high) = near in
+        getD-set-same (set (set linked-one p w) (48 + p) v) (166 + t) u 0
+        (omega (arith, length-set (set linked-one p w) (48 + p) v, length-set linked-one p w, length-set (set xs (96 + p) x) (144 + t) p, length-set xs (96 + p) x))
+
+    -- the first bid of the client from p + 1 on
+    after : Firsts m (p + 1) xs → Linked m (7 - t) (p + 1) x
+    after h =
+        let (low, high) = near in
+        let back : 7 - (7 - t) ≡ t = omega arith in
+        rw ex (rw back at (h (7 - t) (omega arith) (omega arith)))
+
+    pub firsts-next : Firsts m (p + 1) xs → Firsts m p stored
+    firsts-next h c a b =
+        let inside = few in
+        let (low, high) = near in
+        elim (ℕ-discrete (7 - c) t) [
+          | yes e ↦ let same : m .owner (p + 1) ≡ c = omega (arith, client) in rw (e, at-first) (linked-itself p c same)
+          | no n ↦ rw (other (144 + (7 - c)) (λ q. omega arith) (λ q. omega arith) (λ q. omega arith) (λ q. n (omega arith)) (λ q. omega arith))
+              (linked-other p c _ (λ s. n (omega (arith, client, s))) (h c a b))
+        ]
 
     module _ (wt : ℕ → ℕ) (k : ℕ) (h : Laid m wt k (p + 1) xs) where
-      -- the first bid of the client from p + 1 on
-      after : Linked m (7 - t) (p + 1) x
-      after =
-          let (low, high) = near in
-          let back : 7 - (7 - t) ≡ t = omega arith in
-          rw ex (rw back at (h .linked .first (7 - t) (omega arith) (omega arith)))
-
-      links-next : Links m p stored
-      links-next =
-          let (low, high) = near in
-          let inside = few in
-          record {
-            next = λ j a k. stored-cases (λ i y. i ≡ 96 + j → Linked m (m .owner (j + 1)) (j + 1) y)
-                (λ q. absurd (omega arith)) (λ q. absurd (omega arith)) (λ q. let e : j ≡ p = omega arith in rw (e, client) after) (λ q. absurd (omega (arith, o .few)))
-                (λ i _ _ n _ q. rw q (h .linked .next j (let e : j ≢ p = λ s. n (omega arith) in omega arith) k)) (96 + j) refl;
-            first = λ d a b. stored-cases (λ i y. i ≡ 144 + (7 - d) → Linked m d p y)
-                (λ q. absurd (omega arith)) (λ q. absurd (omega arith)) (λ q. absurd (omega arith))
-                (λ q. let same : m .owner (p + 1) ≡ d = omega (arith, client) in linked-itself p d same)
-                (λ i _ _ _ n q. rw q (linked-other p d _ (λ s. n (omega (arith, client, s))) (h .linked .first d a b))) (144 + (7 - d)) refl;
-          }
-
-      -- in all parts of the array
-      pub laid-next : w ≡ wt (p + 1) → Asked k (m .hours (p + 1)) v → Laid m wt k p stored
-      laid-next ew a =
+      pub laid-next : Firsts m (p + 1) xs → w ≡ wt (p + 1) → Asked k (m .hours (p + 1)) v → Laid m wt k p stored
+      laid-next f ew a =
           let inside = few in
           let (low, high) = near in
+          let most = o .few in
           record {
-            weighed = λ j b d. stored-cases (λ i y. i ≡ j → y ≡ wt (j + 1))
-                (λ q. ew ∙ ap (λ (n : ℕ). wt (n + 1)) q) (λ q. absurd (omega (arith, o .few))) (λ q. absurd (omega (arith, o .few))) (λ q. absurd (omega (arith, o .few)))
-                (λ i n _ _ _ q. rw q (h .weighed j (let e : j ≢ p = λ s. n (omega arith) in omega arith) d)) j refl;
-            asked = λ j b d. stored-cases (λ i y. i ≡ 48 + j → Asked k (m .hours (j + 1)) y)
-                (λ q. absurd (omega arith)) (λ q. let e : j ≡ p = omega arith in rw e a) (λ q. absurd (omega (arith, o .few))) (λ q. absurd (omega (arith, o .few)))
-                (λ i _ n _ _ q. rw q (h .asked j (let e : j ≢ p = λ s. n (omega arith) in omega arith) d)) (48 + j) refl;
-            linked = links-next;
+            weighed = λ j b d. elim (ℕ-discrete j p) [
+              | yes e ↦ rw (e, at-weight) ew
+              | no n ↦ other j n (λ q. omega arith) (λ q. omega arith) (λ q. omega arith) (λ q. omega arith) ∙ h .weighed j (omega arith) d
+            ];
+            asked = λ j b d. elim (ℕ-discrete j p) [
+              | yes e ↦ rw (e, at-hours) a
+              | no n ↦ rw (other (48 + j) (λ q. omega arith) (λ q. n (omega arith)) (λ q. omega arith) (λ q. omega arith) (λ q. omega arith)) (h .asked j (omega arith) d)
+            ];
+            linked = λ j b d. elim (ℕ-discrete j p) [
+              | yes e ↦ rw (e, at-link, client) (after f)
+              | no n ↦ rw (other (96 + j) (λ q. omega arith) (λ q. omega arith) (λ q. n (omega arith)) (λ q. omega arith) (λ q. omega arith)) (h .linked j (omega arith) d)
+            ];
           }
 
-      -- numbers few enough, and links that lead on
-      pub ready-next : w ≤ 4294967295 → v ≤ 71777214294589695 → Ready xs → Ready stored
-      ready-next fw fv r =
-          let inside = few in
-          let (low, high) = near in
-          record {
-            weights-few = stored-cases (λ i y. i < 48 → y ≤ 4294967295) (λ _. fw) (λ b. absurd (omega arith)) (λ b. absurd (omega arith)) (λ b. absurd (omega arith)) (λ i _ _ _ _ b. r .weights-few i b);
-            hours-few = λ j b. stored-cases (λ i y. i ≡ 48 + j → y ≤ 71777214294589695) (λ q. absurd (omega arith)) (λ _. fv) (λ q. absurd (omega arith)) (λ q. absurd (omega arith))
-                (λ i _ _ _ _ q. rw q (r .hours-few j b)) (48 + j) refl;
-            rises = λ j b. stored-cases (λ i y. i ≡ 96 + j → j < y) (λ q. absurd (omega arith)) (λ q. absurd (omega arith)) (λ q. omega (arith, after .after)) (λ q. absurd (omega arith))
-                (λ i _ _ _ _ q. rw q (r .rises j b)) (96 + j) refl;
-          }
+    -- numbers few enough, and links that lead on
+    pub ready-next : Firsts m (p + 1) xs → w ≤ 4294967295 → v ≤ 71777214294589695 → Ready xs → Ready stored
+    ready-next f fw fv r =
+        let inside = few in
+        let (low, high) = near in
+        record {
+          weights-few = λ i b. elim (ℕ-discrete i p) [
+            | yes e ↦ rw (e, at-weight) fw
+            | no n ↦ rw (other i n (λ q. omega arith) (λ q. omega arith) (λ q. omega arith) (λ q. omega arith)) (r .weights-few i b)
+          ];
+          hours-few = λ i b. elim (ℕ-discrete i p) [
+            | yes e ↦ rw (e, at-hours) fv
+            | no n ↦ rw (other (48 + i) (λ q. omega arith) (λ q. n (omega arith)) (λ q. omega arith) (λ q. omega arith) (λ q. omega arith)) (r .hours-few i b)
+          ];
+          rises = λ i b. elim (ℕ-discrete i p) [
+            | yes e ↦ rw (e, at-link) (omega (arith, after f .after))
+            | no n ↦ rw (other (96 + i) (λ q. omega arith) (λ q. omega arith) (λ q. n (omega arith)) (λ q. omega arith) (λ q. omega arith)) (r .rises i b)
+          ];
+        }
 
     -- the largest weights
-    pub largest-next : (u : ℕ) (most : List ℕ) → length most ≡ 7 → u ≡ max (getD most t 0) w → Largest m xs (p + 1) most → Largest m stored p (set most t u)
-    largest-next u most lm eu h j a b =
-        let (low, high) = near in
+    pub largest-next : u ≡ max (getD xs (166 + t) 0) w → Largest m (p + 1) xs → Largest m p stored
+    largest-next eu h j a b =
         let inside = few in
-        stored-cases (λ i y. i ≡ j → y ≤ getD (set most t u) (7 - m .owner (j + 1)) 0)
-        (λ q. rw (← q, ← et, getD-set-same most t u 0 (omega arith)) (omega arith))
-        (λ q. absurd (omega (arith, o .few))) (λ q. absurd (omega (arith, o .few))) (λ q. absurd (omega (arith, o .few)))
-        (λ i n _ _ _ q. let e : j ≢ p = λ s. n (omega arith) in
-        rw q (set-cases (λ d y. 7 - m .owner (j + 1) ≡ d → getD xs j 0 ≤ y) most t u (omega arith)
-        (λ g. omega (arith, ap (λ (d : ℕ). getD most d 0) g, h j (omega arith) b))
-        (λ d _ g. omega (arith, ap (λ (d : ℕ). getD most d 0) g, h j (omega arith) b))
-        (7 - m .owner (j + 1)) refl))
-        j refl
+        let (low, high) = near in
+        let most = o .few in
+        let at : 7 - m .owner (j + 1) ≤ 6 = omega (arith, o .low j b) in
+        let grown : getD xs (166 + (7 - m .owner (j + 1))) 0 ≤ getD stored (166 + (7 - m .owner (j + 1))) 0
+        = elim (ℕ-discrete (7 - m .owner (j + 1)) t) [
+          | yes e ↦ rw (e, at-most) (omega arith)
+          | no n ↦ omega (arith, other (166 + (7 - m .owner (j + 1))) (λ q. omega arith) (λ q. omega arith) (λ q. omega arith) (λ q. omega arith) (λ q. n (omega arith)))
+        ] in
+        elim (ℕ-discrete j p) [
+          | yes e ↦ rw (e, at-weight, ← et, at-most) (omega arith)
+          | no n ↦ omega (arith, other j n (λ q. omega arith) (λ q. omega arith) (λ q. omega arith) (λ q. omega arith), h j (omega arith) b, grown)
+        ]
 
-pub ready-none : Ready (replicate 152 48)
-ready-none =
-    let all : (j : ℕ) → j < 152 → _≡_ {A = ℕ} (getD (replicate 152 48) j 0) 48 = λ j l. getD-replicate {A = ℕ} 152 j 48 0 l in
-    record {
-      weights-few = λ i l. omega (arith, all i (omega arith));
-      hours-few = λ i l. omega (arith, all (48 + i) (omega arith));
-      rises = λ i l. omega (arith, all (96 + i) (omega arith));
-    }
+    pub summable-next : u ≡ max (getD xs (166 + t) 0) w → w ≤ 4294967295 → Summable xs → Summable stored
+    summable-next eu fw s =
+        let inside = few in
+        let (low, high) = near in
+        record {
+          long = stored-long;
+          few = λ j b. elim (ℕ-discrete j t) [
+            | yes e ↦ rw (e, at-most) (omega (arith, s .few t high))
+            | no n ↦ rw (other (166 + j) (λ q. omega arith) (λ q. omega arith) (λ q. omega arith) (λ q. omega arith) (λ q. n (omega arith))) (s .few j b)
+          ];
+          bottom = other 152 (λ q. omega arith) (λ q. omega arith) (λ q. omega arith) (λ q. omega arith) (λ q. omega arith) ∙ s .bottom;
+        }
 
-pub topped-none : (on : ℕ → Bool) (most : List ℕ) → Topped on most 0 (replicate 7 0) 0
-topped-none on most =
-    record { long = length-replicate {A = ℕ} 7 0; bottom = zeros-at 7 0; here = zeros-at 7 0; rises = λ j l. absurd (omega arith); only = λ j l. absurd (omega arith); grows = λ j l. absurd (omega arith) }
+pub ready-none : (xs : List ℕ) → Blank xs → Ready xs
+ready-none xs b = record {
+  weights-few = λ i l. omega (arith, b .links i (omega arith));
+  hours-few = λ i l. omega (arith, b .links (48 + i) (omega arith));
+  rises = λ i l. omega (arith, b .links (96 + i) (omega arith));
+}
 
--- a sum that grows counts the client, whose part is not 0
-counted : (on : Bool) (sum most v : ℕ) → v ≡ sum + cond on most 0 → sum < v → (on ≡ true) × (1 ≤ most)
-counted true sum most v e l = (refl, omega arith)
-counted false sum most v e l = absurd (omega arith)
-
-pub topped-next : (on : ℕ → Bool) (most tops : List ℕ) (t sum v : ℕ) → t < 6 → v ≡ sum + cond (on (t + 1)) (getD most (t + 1) 0) 0 → Topped on most t tops sum
-    → Topped on most (t + 1) (set tops (t + 1) v) v
-topped-next on most tops t sum v lt ev h =
-    let put : getD (set tops (t + 1) v) (t + 1) 0 ≡ v = getD-set-same tops (t + 1) v 0 (omega (arith, h .long)) in
-    let kept : (j : ℕ) → j ≢ t + 1 → getD (set tops (t + 1) v) j 0 ≡ getD tops j 0 = λ j n. getD-set-other tops (t + 1) j v 0 n in
-    let old : getD (set tops (t + 1) v) t 0 ≡ sum = kept t (λ q. omega arith) ∙ h .here in
-    record {
-      long = length-set tops (t + 1) v ∙ h .long;
-      bottom = kept 0 (λ q. omega arith) ∙ h .bottom;
-      here = put;
-      rises = λ j l. elim (ℕ-discrete j t) [
-        | yes e ↦ rw e (omega (arith, put, old))
-        | no n ↦ omega (arith, kept j (λ q. omega arith), kept (j + 1) (λ q. n (omega arith)), h .rises j (omega arith))
-      ];
-      only = λ j l k. elim (ℕ-discrete j t) [
-        | yes e ↦ rw e (counted (on (t + 1)) sum (getD most (t + 1) 0) v ev (let g = rw e at k in omega (arith, g, put, old)))
-        | no n ↦ h .only j (omega arith) (omega (arith, kept j (λ q. omega arith), kept (j + 1) (λ q. n (omega arith))))
-      ];
-      grows = λ j l y. elim (ℕ-discrete j t) [
-        | yes e ↦ let w : v ≡ sum + getD most (t + 1) 0 = rw (ap (λ (i : ℕ). on (i + 1)) (sym e) ∙ y) at ev in rw e (omega (arith, put, old, w))
-        | no n ↦ omega (arith, kept j (λ q. omega arith), kept (j + 1) (λ q. n (omega arith)), h .grows j (omega arith) y)
-      ];
-    }
+pub summable-none : (xs : List ℕ) → Blank xs → Summable xs
+summable-none xs b = record { long = b .long; few = λ t l. omega (arith, b .most (166 + t) (omega arith)); bottom = b .bottom }

@@ -2,9 +2,9 @@
 -- over all clients gives the greatest value, at most 6,000,000. Cited by the proofs of src/lookups.rt, src/tops.rt and src/value.rt.
 -- Assumes nothing.
 use mathlib.Core.Path.{_≡_, refl, sym, ap, _∙_}
-use mathlib.Core.Bool.{Bool, true, false, not, cond}
+use mathlib.Core.Bool.{Bool, true, false, _&&_, not, cond, and-false}
 use mathlib.Core.List.{List}
-use mathlib.Core.Logic.{⊎-elim}
+use mathlib.Core.Logic.{⊎-elim, inl, inr}
 use Prim.Native.Nat.{ℕ, zero, suc, _+_, _-_, _/_, _^_, _≤_, _<_, max}
 use native.Mathlib.Nat.{zero-max}
 use native.Mathlib.Numerals.{add-one}
@@ -21,6 +21,7 @@ use Rattle.book.specs.Book.{Book, client-of, clients, standing, supplies}
 use Rattle.book.specs.Layout.{K-of, book-in}
 use Rattle.book.specs.Sound.{Sound}
 use Rattle.book.proofs.Places.{bids-count, clients-count, supplies-count}
+use Rattle.market.specs.Market.{Market}
 use Rattle.market.specs.Greatest.{best}
 use Rattle.market.proofs.Bools.{either, and-parts}
 use Rattle.market.proofs.Prune.{best-idle, best-weights}
@@ -31,7 +32,7 @@ use Rattle.combinations.specs.Greatest.{without, discarded, greatest, greatest-
 use Rattle.combinations.proofs.Most.{greatest-most}
 use Rattle.hours.specs.Four.{four}
 use Rattle.hours.proofs.Fours.{supply-take}
-use Rattle.values.specs.Needs.{Under, Owned, Linked, Links, Left, Largest, Topped, Ceiling, Standing-most, Looked, Prepared, weight-in}
+use Rattle.values.specs.Needs.{Owned, Links, Firsts, Left, Laid, Largest, Summable, Ready, Turned, Ceiling, Head, Stood, Standing, Looked, Turn, Prepared, weight-in}
 use Rattle.values.proofs.Placing.{owned-sound}
 
 -- the test by shift and mask
@@ -44,29 +45,45 @@ discarded-bit d (suc c) l = rw and-mask (ap (λ (k : ℕ). has d k) (omega arith
 pub discarded-turn : (d t : ℕ) → t ≤ 6 → discarded d (7 - t) ≡ eqb (bitAnd (d / 2 ^ (6 - t)) 1) 1
 discarded-turn d t l = let back : 7 - t - 1 ≡ 6 - t = omega arith in rw back at (discarded-bit d (7 - t) (omega arith))
 
--- shares of the entries of an array, and past its end
-pub shares-done : (n i : ℕ) (on : ℕ → Bool) (xs ys : List ℕ) → length xs ≡ n → n ≤ i → Filled n (λ j. cond (on j) (getD xs j 0) 0) i ys
-    → (c : ℕ) → getD ys c 0 ≡ cond (on c) (getD xs c 0) 0
-shares-done n i on xs ys e k h c = elim (decLt c i) [
-  | yes l ↦ h .below c l
-  | no l ↦ h .above c (omega arith) ∙ sym (none (on c) (List·getD-eq-default xs 0 (omega arith)))
-]
-  where
-    none : (t : Bool) → getD xs c 0 ≡ 0 → cond t (getD xs c 0) 0 ≡ 0
-    none true z = z
-    none false z = refl
+-- what is left of the array once clients that do not stand have none
+module _ (b : Book) (xs ys : List ℕ) (h : Stood b 7 xs ys) where
+  stood-first : (c : ℕ) → 1 ≤ c → c ≤ 6 → getD ys (144 + (7 - c)) 0 ≡ cond (standing b c) (getD xs (144 + (7 - c)) 0) 48
+  stood-first c l k = let back : 7 - (7 - c) ≡ c = omega arith in rw back at (h .first (7 - c) (omega arith))
 
--- what is in the largest weights of clients that stand
-pub standing-shares : (b : Book) (xs largest most : List ℕ) → Owned (market b) → Largest (market b) xs 0 largest → Under 4294967295 largest
-    → ((t : ℕ) → getD most t 0 ≡ cond (standing b (7 - t)) (getD largest t 0) 0) → Standing-most b xs most
-unfolding market
-standing-shares b xs largest most o h u e = record {
-  only = λ c l k. let back : 7 - (7 - c) ≡ c = omega arith in
-      ⊎-elim (λ (y : standing b c ≡ true). y) (λ (n : standing b c ≡ false). let z = rw (back, n) at (e (7 - c)) in absurd (omega (arith, z, k))) (either (standing b c));
-  covers = λ j l y. let back : 7 - (7 - client-of b (j + 1)) ≡ client-of b (j + 1) = omega (arith, o .high j) in
-      let z = rw (back, y) at (e (7 - client-of b (j + 1))) in omega (arith, z, h j (omega arith) l);
-  few = λ t. ⊎-elim (λ (y : standing b (7 - t) ≡ true). let z = rw y at (e t) in omega (arith, z, u t)) (λ (n : standing b (7 - t) ≡ false). let z = rw n at (e t) in omega (arith, z)) (either (standing b (7 - t)));
-}
+  pub stood-standing : Owned (market b) → Firsts (market b) 0 xs → Largest (market b) 0 xs → Standing b ys
+  unfolding market
+  stood-standing o f g = record {
+    first = λ c l k y. rw (stood-first c l k, y) (f c l k);
+    gone = λ c l k n. rw n at (stood-first c l k);
+    covers = λ j l y. let back : 7 - (7 - client-of b (j + 1)) ≡ client-of b (j + 1) = omega (arith, o .high j) in
+        let z = rw (back, y) at (h .most (7 - client-of b (j + 1)) (omega (arith, o .low j l))) in
+        omega (arith, z, h .low j (omega (arith, o .few)), g j (omega arith) l);
+  }
+
+  pub stood-laid : (m : Market) (wt : ℕ → ℕ) (k : ℕ) → Owned m → Laid m wt k 0 xs → Laid m wt k 0 ys
+  stood-laid m wt k o p = record {
+    weighed = λ j a l. h .low j (omega (arith, o .few)) ∙ p .weighed j a l;
+    asked = λ j a l. rw (h .low (48 + j) (omega (arith, o .few))) (p .asked j a l);
+    linked = λ j a l. rw (h .low (96 + j) (omega (arith, o .few))) (p .linked j a l);
+  }
+
+  pub stood-ready : Ready xs → Ready ys
+  stood-ready r = record {
+    weights-few = λ i l. rw (h .low i (omega arith)) (r .weights-few i l);
+    hours-few = λ i l. rw (h .low (48 + i) (omega arith)) (r .hours-few i l);
+    rises = λ i l. rw (h .low (96 + i) (omega arith)) (r .rises i l);
+  }
+
+  pub stood-summable : Summable xs → Summable ys
+  stood-summable s = record {
+    long = h .long;
+    few = λ t l. omega (arith, share-most (standing b (7 - t)) (getD xs (166 + t) 0), h .most t (omega arith), s .few t l);
+    bottom = h .mid 152 (omega arith) (omega arith) ∙ s .bottom;
+  }
+    where
+      share-most : (y : Bool) (x : ℕ) → cond y x 0 ≤ x
+      share-most true x = omega arith
+      share-most false x = omega arith
 
 -- the supply in lanes
 past-four : (xs : List ℕ) → length xs ≤ 4 → (i : ℕ) → length xs ≤ i → getD (four xs) i 0 ≡ 0
@@ -92,59 +109,113 @@ supply-left bs ls left s e g b =
       guards = g ∙ guarded-short (supplies (book-in bs)) ls (rw count cut) (λ i l. ap (λ (xs : List ℕ). getD xs i 0) e ∙ past-four (supplies (book-in bs)) (omega (arith, count, s .K-high)) i l);
     }
 
+-- what one discard byte changes leaves the rest as it was
+module _ (d : ℕ) (xs ys : List ℕ) where
+  pub turned-laid : (m : Market) (wt : ℕ → ℕ) (k : ℕ) → Turned d xs ys → Owned m → Laid m wt k 0 xs → Laid m wt k 0 ys
+  turned-laid m wt k t o p = record {
+    weighed = λ j a l. t .kept j (inl (omega (arith, o .few))) ∙ p .weighed j a l;
+    asked = λ j a l. rw (t .kept (48 + j) (inl (omega (arith, o .few)))) (p .asked j a l);
+    linked = λ j a l. rw (t .kept (96 + j) (inl (omega (arith, o .few)))) (p .linked j a l);
+  }
+
+  pub turned-prepared : (bs : List ℕ) → Sound bs → Turned d xs ys → Prepared bs xs → Prepared bs ys
+  turned-prepared bs s t p =
+      let o = owned-sound bs s in
+      let r = p .ready in
+      let g = p .stands in
+      record {
+        laid = turned-laid (market (book-in bs)) (amount-of (book-in bs)) (K-of bs) t o (p .laid);
+        ready = record {
+          weights-few = λ i l. rw (t .kept i (inl (omega arith))) (r .weights-few i l);
+          hours-few = λ i l. rw (t .kept (48 + i) (inl (omega arith))) (r .hours-few i l);
+          rises = λ i l. rw (t .kept (96 + i) (inl (omega arith))) (r .rises i l);
+        };
+        stands = record {
+          first = λ c l k y. rw (t .kept (144 + (7 - c)) (inl (omega arith))) (g .first c l k y);
+          gone = λ c l k n. t .kept (144 + (7 - c)) (inl (omega arith)) ∙ g .gone c l k n;
+          covers = λ j l y. omega (arith, t .kept j (inl (omega (arith, o .few))), t .kept (166 + (7 - client-of (book-in bs) (j + 1))) (inr (omega arith)), g .covers j l y);
+        };
+        summable = record { long = t .long; few = λ i l. rw (t .kept (166 + i) (inr (omega arith))) (p .summable .few i l); bottom = t .kept 152 (inl (omega arith)) ∙ p .summable .bottom };
+      }
+
+  -- the search may begin
+  pub turned-turn : (left : ℕ) → Turned d xs ys → 72058693566333184 ≤ left → Turn 6 left 0 ys
+  turned-turn left t g = record {
+    clients-few = omega arith;
+    floor-few = omega arith;
+    guards = g;
+    tops-few = λ i l. omega (arith, t .topped .few i l);
+    bottom = t .topped .bottom;
+  }
+
 module _ (b : Book) (d : ℕ) where
   -- the clients that stay leave bids, owners and hours as they are
   owned-without : Owned (market b) → Owned (without b (discarded d))
   unfolding without
   owned-without o = record { few = o .few; low = o .low; high = o .high; none = o .none }
 
-  linked-without : (c i j : ℕ) → Linked (market b) c i j → Linked (without b (discarded d)) c i j
-  unfolding without
-  linked-without c i j h = record { after = h .after; own = h .own; none = h .none }
-
   links-without : (xs : List ℕ) → Links (market b) 0 xs → Links (without b (discarded d)) 0 xs
   unfolding without
-  links-without xs h = record { next = λ j l k. linked-without _ _ _ (h .next j l k); first = λ c l k. linked-without _ _ _ (h .first c l k) }
+  links-without xs h j l k = let e = h j l k in record { after = e .after; own = e .own; none = e .none }
 
-  -- the sums of the largest weights are ceilings
-  ceiling-without : (xs most tops : List ℕ) (sum : ℕ) → Owned (market b) → Standing-most b xs most → Topped (λ t. not (discarded d (7 - t))) most 6 tops sum
-      → Ceiling (without b (discarded d)) xs tops
-  unfolding without market
-  ceiling-without xs most tops sum o h t = record {
-    bottom = t .bottom;
-    rises = t .rises;
-    only = λ i l k. let (here, back) = turn i l in
-        let (stays, some) = t .only (6 - client-of b (i + 1)) (omega (arith, o .low i l)) (rw here k) in
-        let kept = rw (here, back) at stays in
-        rw (h .only _ (omega (arith, o .high i)) (rw here at some), kept);
-    covers = λ i l y. let (here, back) = turn i l in
-        let (stands, stays) = and-parts (standing b (client-of b (i + 1))) _ y in
-        let grown = rw here at (t .grows (6 - client-of b (i + 1)) (omega (arith, o .low i l)) (rw (here, back) stays)) in
-        omega (arith, h .covers i l stands, grown);
-  }
-    where
-      turn : (i : ℕ) → i < market b .bids → (6 - client-of b (i + 1) + 1 ≡ 7 - client-of b (i + 1)) × (7 - (7 - client-of b (i + 1)) ≡ client-of b (i + 1))
-      turn i l = (omega (arith, o .high i), omega (arith, o .high i))
+  module _ (xs ys : List ℕ) (o : Owned (market b)) (s : Standing b xs) (t : Turned d xs ys) where
+    -- the sums of the largest weights are ceilings
+    ceiling-without : Ceiling (without b (discarded d)) ys
+    unfolding without market
+    ceiling-without = record {
+      bottom = t .topped .bottom;
+      rises = t .topped .rises;
+      covers = λ i l y. let here : 6 - client-of b (i + 1) + 1 ≡ 7 - client-of b (i + 1) = omega (arith, o .high i) in
+          let back : 7 - (7 - client-of b (i + 1)) ≡ client-of b (i + 1) = omega (arith, o .high i) in
+          let (stands, stays) = and-parts (standing b (client-of b (i + 1))) _ y in
+          let grown = rw here at (t .topped .grows (6 - client-of b (i + 1)) (omega (arith, o .low i l)) (rw (here, back) stays)) in
+          omega (arith, s .covers i l stands, t .kept i (inl (omega (arith, o .few))), t .kept (166 + (7 - client-of b (i + 1))) (inr (omega arith)), grown);
+    }
+
+    -- the first bids are those of clients whose bids may be taken
+    head-here : (c : ℕ) → 1 ≤ c → c ≤ 6 → getD ys (159 + (7 - c)) 0 ≡ cond (not (discarded d c)) (getD xs (144 + (7 - c)) 0) 48
+    head-here c l k =
+        let back : 7 - (7 - c) ≡ c = omega arith in
+        rw back at (t .headed (7 - c) (omega arith) (omega arith))
+        ∙ ap (λ (x : ℕ). cond (not (discarded d c)) x 48) (t .kept (144 + (7 - c)) (inl (omega arith)))
+
+    head-without : (c : ℕ) → 1 ≤ c → c ≤ 6 → Head (without b (discarded d)) c (getD ys (159 + (7 - c)) 0)
+    unfolding without market
+    head-without c l k = ⊎-elim (λ (y : standing b c ≡ true). ⊎-elim
+        (λ (z : discarded d c ≡ true). shut (rw z at (head-here c l k)) (λ i e. rw (e, z) (and-false (standing b c))))
+        (λ (z : discarded d c ≡ false). let first = s .first c l k y in
+        rw (rw z at (head-here c l k)) (record { able = λ _ i e. rw (e, y, z); own = first .own; none = λ i a e. absurd (first .none i (omega arith) a e) }))
+        (either (discarded d c)))
+        (λ (n : standing b c ≡ false). shut (head-here c l k ∙ none (not (discarded d c)) (s .gone c l k n)) (λ i e. rw (e, n)))
+        (either (standing b c))
+      where
+        none : (x : Bool) → getD xs (144 + (7 - c)) 0 ≡ 48 → cond x (getD xs (144 + (7 - c)) 0) 48 ≡ 48
+        none true e = e
+        none false e = refl
+
+        shut : getD ys (159 + (7 - c)) 0 ≡ 48 → ((i : ℕ) → client-of b (i + 1) ≡ c → (standing b (client-of b (i + 1)) && not (discarded d (client-of b (i + 1)))) ≡ false)
+            → Head (without b (discarded d)) c (getD ys (159 + (7 - c)) 0)
+        shut e f = rw e (record { able = λ j. absurd (omega arith); own = λ j. absurd (omega arith); none = λ i _ q. f i q })
 
 -- all that the search looks up, of the market without the clients that are discarded
-pub looked-sound : (bs xs most tops : List ℕ) (d sum : ℕ) → Sound bs → Prepared bs xs most → Topped (λ t. not (discarded d (7 - t))) most 6 tops sum
-    → Looked (without (book-in bs) (discarded d)) (K-of bs) xs tops
+pub looked-sound : (bs xs ys : List ℕ) (d : ℕ) → Sound bs → Prepared bs xs → Turned d xs ys → Looked (without (book-in bs) (discarded d)) (K-of bs) ys
 unfolding without market amount-of
-looked-sound bs xs most tops d sum s p t =
+looked-sound bs xs ys d s p t =
     let o = owned-sound bs s in
+    let laid = turned-laid d xs ys (market (book-in bs)) (amount-of (book-in bs)) (K-of bs) t o (p .laid) in
     record {
       owned = owned-without (book-in bs) d o;
-      asked = λ i l. p .laid .asked i (omega arith) l;
-      linked = links-without (book-in bs) d xs (p .laid .linked);
-      ceiling = ceiling-without (book-in bs) d xs most tops sum o (p .topmost) t;
-      some = λ i l. omega (arith, p .laid .weighed i (omega arith) l, s .amount-low (i + 1) (omega arith) (omega (arith, bids-count bs)));
+      asked = λ i l. laid .asked i (omega arith) l;
+      linked = links-without (book-in bs) d ys (laid .linked);
+      ceiling = ceiling-without (book-in bs) d xs ys o (p .stands) t;
+      headed = head-without (book-in bs) d xs ys o (p .stands) t;
     }
 
 -- the search from floor 0 over six clients
-pub greatest-found : (bs xs most : List ℕ) (d r : ℕ) → Sound bs → Prepared bs xs most
+pub greatest-found : (bs xs : List ℕ) (d r : ℕ) → Sound bs → Prepared bs xs
     → r ≡ max 0 (best (without (book-in bs) (discarded d)) (weight-in xs) 6 1 (supplies (book-in bs))) → (r ≡ greatest (book-in bs) d) × (r ≤ 6000000)
 unfolding greatest greatest-without without market weight-in
-greatest-found bs xs most d r s p er =
+greatest-found bs xs d r s p er =
     let m = without (book-in bs) (discarded d) in
     let n = clients (book-in bs) in
     let all : n + (6 - n) ≡ 6 = omega (arith, clients-count bs, s .n-high) in

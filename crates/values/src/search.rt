@@ -1,7 +1,7 @@
 // The greatest value by a search on the clients left, which fall by one at each call. It leaves out what cannot beat the floor, the
 // value that is already found: by the ceilings of the clients left. The hours of a bid and the hours left are numbers of crates/lanes.
 ghost use mathlib.Core.Path.{_≡_};
-ghost use mathlib.Core.Bool.{_&&_, cond};
+ghost use mathlib.Core.Bool.{_&&_};
 ghost use mathlib.Core.List.{List};
 ghost use Prim.Native.Nat.{ℕ, _*_, _-_, _≤_, max};
 ghost use lib.Bits.{bitAnd};
@@ -9,13 +9,6 @@ ghost use lib.Dec.{eqb, ltb};
 ghost use Rattle.market.specs.Market.{Market};
 ghost use Rattle.market.specs.Greatest.{best};
 ghost use Rattle.values.specs.Needs.{Ready, Left, Looked, Turn, weight-in};
-
-// The first bid of a client that stays, which has a ceiling above the next one's; and of one that does not none: 48.
-fn first_own(on: bool, first: u64) -> u64
-    ensures { λ r. ⌜ r ≡ cond on first 48 ⌝ }
-{
-    if on { first } else { 48 }
-}
 
 // Whether the most that a choice can come to is more than what is found.
 fn beats(most: u64, top: u64) -> bool
@@ -36,33 +29,29 @@ fn may_raise(after: u64, top: u64, most: u64) -> bool
 
 // The larger of the floor and of the greatest value of the last clients (`ahead` of them) with the hours left, in whatever market the
 // array lays out. The ceilings are by the clients left, and where none is left it is 0.
-pub(crate) fn search_from(
-    ahead: usize,
-    left: u64,
-    floor: u64,
-    tops: &[u64; 7],
-    looks: &[u64; 152],
-) -> u64
+pub(crate) fn search_from(ahead: usize, left: u64, floor: u64, looks: &[u64; 173]) -> u64
     requires { ⌜ Ready (now looks) ⌝ }
-    requires { ⌜ Turn ahead left floor (now tops) ⌝ }
+    requires { ⌜ Turn ahead left floor (now looks) ⌝ }
     ensures { λ r. ⌜ r ≤ max floor (ahead * 4294967295) ⌝ }
-    ensures { λ r. ⌜ ((m : Market) (k : ℕ) (hours : List ℕ) → Looked m k (now (looks .entry)) (now (tops .entry)) → Left k hours left → r ≡ max floor (best m (weight-in (now (looks .entry))) ahead (7 - ahead) hours)) ⌝ }
+    ensures { λ r. ⌜ ((m : Market) (k : ℕ) (hours : List ℕ) → Looked m k (now (looks .entry)) → Left k hours left → r ≡ max floor (best m (weight-in (now (looks .entry))) ahead (7 - ahead) hours)) ⌝ }
 {
-    if tops[ahead] <= floor {
+    if looks[152 + ahead] <= floor {
         return floor;
     }
-    let rest = tops[ahead - 1];
+    let fewer = ahead - 1;
+    let rest = looks[152 + fewer];
     let mut top = floor;
-    let mut i = first_own(rest < tops[ahead], looks[144 + ahead]) as usize;
+    let mut i = looks[159 + ahead] as usize;
     while i < 48 {
         let weight = looks[i];
         let after = left - looks[48 + i];
+        let next = looks[96 + i] as usize;
         if may_raise(after, top, weight + rest) {
             let base = numbers::excess(top, weight);
-            let more = search_from(ahead - 1, after, base, tops, looks);
-            top = numbers::larger(top, weight + more);
+            let more = search_from(fewer, after, base, looks);
+            top = weight + more;
         }
-        i = looks[96 + i] as usize;
+        i = next;
     }
-    search_from(ahead - 1, left, top, tops, looks)
+    search_from(fewer, left, top, looks)
 }

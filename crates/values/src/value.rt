@@ -24,14 +24,15 @@ pub struct Values {
 }
 
 // The greatest value of a sound book, by what the search looks up; clients that a book does not have reach nothing.
-fn value_by(book: &[u8], discard: u8, left: u64, most: &[u64; 7], looks: &[u64; 152]) -> u64
+fn value_by(book: &[u8], discard: u8, left: u64, looks: &mut [u64; 173]) -> u64
     requires { ⌜ Sound (now book) ⌝ }
     requires { ⌜ Left (K-of (now book)) (supplies (book-in (now book))) left ⌝ }
-    requires { ⌜ Prepared (now book) (now looks) (now most) ⌝ }
+    requires { ⌜ Prepared (now book) (now looks) ⌝ }
     ensures { λ r. ⌜ (r ≡ greatest (book-in (now (book .entry))) discard) × (r ≤ 6000000) ⌝ }
+    ensures { λ _. ⌜ Prepared (now (book .entry)) (now (looks .exit)) ⌝ }
 {
-    let tops = tops::tops(discard, most);
-    search::search_from(6, left, 0, &tops, looks)
+    tops::turn(discard, looks);
+    search::search_from(6, left, 0, looks)
 }
 
 // The greatest value of any bytes for one discard byte.
@@ -46,10 +47,8 @@ pub fn value_of(book: &[u8], discard: u8) -> Value
         };
     }
     let left = lanes::guarded(hours::supply(book));
-    let made = lookups::prepare(book);
-    let looks = made.looks;
-    let most = made.most;
-    let value = value_by(book, discard, left, &most, &looks);
+    let mut looks = lookups::prepare(book);
+    let value = value_by(book, discard, left, &mut looks);
     Value { number: 0, value }
 }
 
@@ -59,14 +58,12 @@ fn each(book: &[u8], discards: [u8; 64], count: usize) -> [u64; 64]
     ensures { λ r. ⌜ r ≡ values-of (now (book .entry)) discards count ⌝ }
 {
     let left = lanes::guarded(hours::supply(book));
-    let made = lookups::prepare(book);
-    let looks = made.looks;
-    let most = made.most;
+    let mut looks = lookups::prepare(book);
     let end = numbers::smaller(count, 64);
     let mut values = [0u64; 64];
     let mut j: usize = 0;
     while j < end {
-        values[j] = value_by(book, discards[j], left, &most, &looks);
+        values[j] = value_by(book, discards[j], left, &mut looks);
         j += 1;
     }
     values

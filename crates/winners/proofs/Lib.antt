@@ -2,5 +2,6 @@
 pub mod Values
 pub mod Rising
 pub mod Picks
+pub mod Doubling
 pub mod Tables
 pub mod Answers

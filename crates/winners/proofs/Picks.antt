@@ -1,7 +1,7 @@
 -- Which clients a set picks from a list, in a loop's steps, and the discard byte that says the same. Cited by the proofs of src/lists.rt
 -- and src/table.rt. Assumes nothing.
 use mathlib.Core.Path.{_≡_, refl, sym, ap, fun-ext, _∙_}
-use mathlib.Core.Bool.{Bool, true, false, _&&_, _||_, cond, and-false, or-true, or-false, false≢true}
+use mathlib.Core.Bool.{Bool, true, false, _&&_, _||_, and-false, or-true, or-false, false≢true}
 use mathlib.Core.List.{List, [], _∷_}
 use mathlib.Core.Logic.{⊎-elim, _≢_}
 use Prim.Native.Nat.{ℕ, zero, suc, _+_, _-_, _^_, _≤_, _<_}
@@ -13,9 +13,7 @@ use borrow.Author.Tests.{ltb-true, leb-true, le-leb, eq-eqb, ne-eqb}
 use lib.Dec.{leb, ltb, eqb}
 use lib.ListN.{length, getD, take}
 use lib.Pow.{pow-mono}
-use Rattle.sets.specs.Sums.{sum}
-use Rattle.sets.specs.Sets.{has, set-of, sum-in}
-use Rattle.sets.proofs.Filled.{Filled}
+use Rattle.sets.specs.Sets.{has, set-of}
 use Rattle.sets.proofs.Prefixes.{prefix-length, prefix-at}
 use Rattle.sets.proofs.Members.{has-zero, has-set-of, set-of-lt, set-of-add, has-above}
 use Rattle.market.specs.Market.{at}
@@ -23,7 +21,7 @@ use Rattle.market.proofs.Bools.{either, and-parts}
 use Rattle.combinations.specs.Greatest.{discarded}
 use Rattle.combinations.specs.Surplus.{any, picked}
 use Rattle.combinations.proofs.Surplus.{picked-true}
-use Rattle.winners.specs.Needs.{Listed, Bits}
+use Rattle.winners.specs.Needs.{Listed}
 use Rattle.winners.specs.Surpluses.{rising-to}
 
 -- clients that rise lie between
@@ -98,17 +96,14 @@ module _ (cs : List ℕ) (L : ℕ) where
         let r = rising-range 6 0 cs t j l in
         early-next j (at cs j - 1) ∙ rw (y, eq-eqb (at cs j) (suc (at cs j - 1)) (omega arith)) (or-true (early j (at cs j - 1)))
 
-  pub byte-next : (j x bit byte now : ℕ) → rising-to 6 0 cs ≡ true → j < length cs → at cs j ≡ x → bit ≡ cond (has L j) (2 ^ (x - 1)) 0 → byte ≡ set-of 6 (early j)
-      → now ≡ byte + bit → now ≡ set-of 6 (early (j + 1))
-  byte-next j x bit byte now t l e eb b m =
+  -- a set without the place keeps its byte, and one with it has the client's bit more
+  pub byte-without : (j : ℕ) → has L j ≡ false → set-of 6 (early j) ≡ set-of 6 (early (j + 1))
+  byte-without j y = ap (λ (f : ℕ → Bool). set-of 6 f) (fun-ext (λ k. sym (early-next j k ∙ rw y (or-false (early j k)))))
+
+  pub byte-with : (j : ℕ) → rising-to 6 0 cs ≡ true → j < length cs → has L j ≡ true → set-of 6 (early j) + 2 ^ (at cs j - 1) ≡ set-of 6 (early (j + 1))
+  byte-with j t l y =
       let r = rising-range 6 0 cs t j l in
-      ⊎-elim
-      (λ (y : has L j ≡ true). let more : bit ≡ 2 ^ (at cs j - 1) = (rw y at eb) ∙ ap (λ (i : ℕ). 2 ^ (i - 1)) (sym e) in
-      omega (arith, more, set-of-add 6 (at cs j - 1) (early j) (early (j + 1)) (omega arith) (absent j t l) (present j t l y) (later j t l)))
-      (λ (y : has L j ≡ false). let none : bit ≡ 0 = rw y at eb in
-      let same : set-of 6 (early (j + 1)) ≡ set-of 6 (early j) = ap (λ (f : ℕ → Bool). set-of 6 f) (fun-ext (λ k. early-next j k ∙ rw y (or-false (early j k)))) in
-      omega (arith, none, same))
-      (either (has L j))
+      set-of-add 6 (at cs j - 1) (early j) (early (j + 1)) (omega arith) (absent j t l) (present j t l y) (later j t l)
 
 -- the clients of a list are from 1 to 6
 pub listed-range : (clients : List ℕ) (count j : ℕ) → Listed clients count → length clients ≡ 6 → j < count → (1 ≤ getD clients j 0) × (getD clients j 0 ≤ 6)
@@ -117,32 +112,6 @@ listed-range clients count j h e l =
     let at-j = prefix-at clients count (omega arith) j l in
     let r = rising-range 6 0 (take count clients) (h .rising) j (omega (arith, prefix-length clients count (omega arith))) in
     (omega (arith, at-j, r .0), omega (arith, at-j, r .1))
-
--- their bits, filled in
-pub bits-done : (clients : List ℕ) (count j : ℕ) (bits : List ℕ) → Listed clients count → length clients ≡ 6 → j ≡ count
-    → Filled 6 (λ i. 2 ^ (getD clients i 0 - 1)) j bits → Bits clients count bits
-bits-done clients count j bits h e ej f = record {
-  each = λ i l. f .below i (omega arith);
-  all = record { few = h .few; most = λ i l. omega (arith, f .below i (omega arith), pow-mono {i = getD clients i 0 - 1} {j = 5} (omega (arith, listed-range clients count i h e l))) };
-}
-
--- the sum of the bits of those that a set picks is its discard byte
-pub byte-sum : (clients bits : List ℕ) (count L : ℕ) → Listed clients count → Bits clients count bits → length clients ≡ 6
-    → set-of 6 (λ k. picked (take count clients) L (suc k)) ≡ sum-in count L (λ j. getD bits j 0)
-unfolding sum-in sum
-byte-sum clients bits count L h b e =
-    let few = h .few in
-    let long = prefix-length clients count (omega arith) in
-    sym (byte-all (take count clients) L count _ (sym long) refl) ∙ go count (omega arith)
-  where
-    go : (j : ℕ) → j ≤ count → set-of 6 (early (take count clients) L j) ≡ sum j (λ i. cond (has L i) (getD bits i 0) 0)
-    go zero l = sym (byte-none (take count clients) L)
-    go (suc j) l =
-        let few = h .few in
-        let long = prefix-length clients count (omega arith) in
-        let bit : cond (has L j) (getD bits j 0) 0 ≡ cond (has L j) (2 ^ (getD clients j 0 - 1)) 0 = ap (λ (x : ℕ). cond (has L j) x 0) (b .each j (omega arith)) in
-        sym (ap (λ (n : ℕ). set-of 6 (early (take count clients) L n)) (add-one j))
-        ∙ sym (byte-next (take count clients) L j (getD clients j 0) _ _ _ (h .rising) (omega arith) (prefix-at clients count (omega arith) j (omega arith)) bit (sym (go j (omega arith))) refl)
 
 -- a client that is nowhere in the list is not picked
 unpicked : (cs : List ℕ) (L c : ℕ) → ((j : ℕ) → j < length cs → at cs j ≢ c) → picked cs L c ≡ false

@@ -3,7 +3,7 @@
 use mathlib.Core.Path.{_≡_}
 use mathlib.Core.Bool.{true, cond}
 use mathlib.Core.List.{List}
-use Prim.Native.Nat.{ℕ, suc, _-_, _^_, _≤_, _<_}
+use Prim.Native.Nat.{ℕ, suc, _+_, _-_, _^_, _≤_, _<_}
 use lib.Dec.{ltb}
 use lib.ListN.{length, getD, take}
 use Rattle.sets.specs.Sets.{set-of}
@@ -15,15 +15,16 @@ pub record Listed (clients : List ℕ) (count : ℕ) : Type 0 where
   pub few : count ≤ 6
   pub rising : rising-to 6 0 (take count clients) ≡ true
 
--- at most six bits of a discard byte
-pub record Few-bits (count : ℕ) (bits : List ℕ) : Type 0 where
-  pub few : count ≤ 6
-  pub most : (j : ℕ) → j < count → getD bits j 0 ≤ 32
+-- room for the sets of one client more, and for its bit in each byte
+pub record Room (discards : List ℕ) (end bit : ℕ) : Type 0 where
+  pub few : end ≤ 32
+  pub low : bit ≤ 32
+  pub most : (L : ℕ) → L < end → getD discards L 0 < 64
 
--- by place in the list, the bit of its client
-pub record Bits (clients : List ℕ) (count : ℕ) (bits : List ℕ) : Type 0 where
-  pub each : (j : ℕ) → j < count → getD bits j 0 ≡ 2 ^ (getD clients j 0 - 1)
-  pub all : Few-bits count bits
+-- the entries below end as they were, and after them the first of these once more, each with the bit
+pub record Doubled (discards : List ℕ) (end bit set : ℕ) (out : List ℕ) : Type 0 where
+  pub kept : (L : ℕ) → L < end → getD out L 0 ≡ getD discards L 0
+  pub added : (L : ℕ) → L < set → getD out (end + L) 0 ≡ getD discards L 0 + bit
 
 -- by set number, the discard byte of the clients that the set picks from the list
 abbrev pub Discards : (clients : List ℕ) → (count : ℕ) → List ℕ → Type 0

@@ -3,9 +3,8 @@ use book::flags;
 ghost use mathlib.Core.Path.{_≡_};
 ghost use mathlib.Core.Bool.{_&&_};
 ghost use lib.Dec.{leb};
-ghost use lib.ListN.{take, getD};
-ghost use Rattle.sets.specs.Sets.{sum-in};
-ghost use Rattle.winners.specs.Needs.{Listed, Bits, Few-bits, Discards};
+ghost use lib.ListN.{take};
+ghost use Rattle.winners.specs.Needs.{Listed, Room, Doubled, Discards};
 ghost use Rattle.winners.specs.Surpluses.{rising-to};
 
 // Whether the list has at most six clients, up to n and strictly rising.
@@ -27,46 +26,31 @@ pub(crate) fn is_rising(clients: [u8; 6], count: usize, n: usize) -> bool
     ok
 }
 
-// The bit of each client of the list in a discard byte: bit 0 is client 1.
-fn bits_of(clients: [u8; 6], count: usize) -> [u64; 6]
-    requires { ⌜ Listed clients count ⌝ }
-    ensures { λ r. ⌜ Bits clients count r ⌝ }
+// The bytes of the first `end` sets, and after them each once more with one bit.
+fn doubled(discards: [u8; 64], end: usize, bit: u8) -> [u8; 64]
+    requires { ⌜ Room discards end bit ⌝ }
+    ensures { λ r. ⌜ Doubled discards end bit end r ⌝ }
 {
-    let mut bits = [0u64; 6];
-    let mut j: usize = 0;
-    while j < count {
-        bits[j] = 1 << (clients[j] as usize - 1);
-        j += 1;
+    let mut out = discards;
+    let mut set: usize = 0;
+    while set < end {
+        out[end + set] = out[set] + bit;
+        set += 1;
     }
-    bits
+    out
 }
 
-// The discard byte of the clients that the set picks, by their bits: bit j of the set's number stands for the j-th.
-fn discard_of(bits: [u64; 6], count: usize, set: usize) -> u8
-    requires { ⌜ Few-bits count bits ⌝ }
-    ensures { λ r. ⌜ r ≡ sum-in count set (λ j. getD bits j 0) ⌝ }
-{
-    let mut byte: u64 = 0;
-    let mut j: usize = 0;
-    while j < count {
-        byte = byte + numbers::share((set >> j) & 1 == 1, bits[j]);
-        j += 1;
-    }
-    byte as u8
-}
-
-// The discard bytes of all sets of the list, by their numbers.
+// The discard bytes of all sets of the list, by their numbers: with each client the sets double.
 pub(crate) fn discards(clients: [u8; 6], count: usize) -> [u8; 64]
     requires { ⌜ Listed clients count ⌝ }
     ensures { λ r. ⌜ Discards clients count r ⌝ }
 {
-    let end: usize = 1 << count;
-    let bits = bits_of(clients, count);
     let mut discards = [0u8; 64];
-    let mut set: usize = 0;
-    while set < end {
-        discards[set] = discard_of(bits, count, set);
-        set += 1;
+    let mut j: usize = 0;
+    while j < count {
+        let next = doubled(discards, 1 << j, 1 << (clients[j] - 1));
+        discards = next;
+        j += 1;
     }
     discards
 }

@@ -1,7 +1,7 @@
 -- `values::lookups::prepare` meets its contract. Assumes nothing.
 use borrow.Author.Needs.{needs}
 use Rattle.values.proofs.Placing.{placed-sound, owned-sound}
-use Rattle.values.proofs.Found.{standing-shares}
+use Rattle.values.proofs.Found.{stood-laid, stood-ready, stood-standing, stood-summable}
 use Rattle.values.proofs.lookups.prepare.Statement.{statement}
 use Rattle.values.proofs.lookups.prepare.Tie as tie
 
@@ -12,11 +12,14 @@ look-up-requires c κs =
 
 returns : tie.Need-returns
 returns c =
-    let l = c .before .before .before .look-up .ensures in
+    let l = c .before .before .look-up .ensures in
+    let owned = owned-sound _ (c .before .before .before .before .before .before .before .pre) in
+    let stood = c .stand .ensures in
     record {
-      laid = rw (c .before .before .before .before .before .before .kinds .ensures) at (l .0);
-      ready = l .1 .1 .0;
-      topmost = standing-shares _ _ (c .before .before .before .look-up .result .most) _ (owned-sound _ (c .before .before .before .before .before .before .before .before .pre)) (l .1 .0) (l .1 .1 .1) (c .standing-most .ensures);
+      laid = rw (c .before .before .before .before .before .kinds .ensures) at (stood-laid _ _ _ stood _ _ _ owned (l .0));
+      ready = stood-ready _ _ _ stood (l .1 .1 .1 .0);
+      stands = stood-standing _ _ _ stood owned (l .1 .0) (l .1 .1 .0);
+      summable = stood-summable _ _ _ stood (l .1 .1 .1 .1);
     }
 
 pub prepare-spec : {M : Type 1} → statement M
@@ -30,5 +33,5 @@ prepare-spec =
     (λ c κs. search needs)
     (λ c. search needs)
     look-up-requires
-    (λ c κs. search needs)
+    (λ c κs. c .before .look-up .ensures .1 .1 .1 .1 .long)
     returns)

@@ -7,38 +7,44 @@ use lib.ListN.{length, getD}
 use Rattle.book.specs.Layout.{book-in}
 use Rattle.combinations.specs.Greatest.{greatest}
 use Rattle.sets.proofs.Filled.{Filled, filled-none, filled-next}
+use Rattle.values.specs.Needs.{Prepared}
 use Rattle.values.proofs.Found.{supply-left}
 use Rattle.values.proofs.Answers.{each-done}
 use Rattle.values.proofs.value.each.Statement.{statement}
 use Rattle.values.proofs.value.each.Tie as tie
 
 abbrev Inv-loop : tie.InvT-loop
-Inv-loop book count discards left looks most end values₀ j₀ values j =
-    (j ≤ end) × (length discards ≡ 64) × Filled 64 (λ i. greatest (book-in book) (getD discards i 0)) j values
+Inv-loop book count discards left looks₀ end values₀ j₀ looks values j =
+    (j ≤ end) × (length discards ≡ 64) × Prepared book looks × Filled 64 (λ i. greatest (book-in book) (getD discards i 0)) j values
 
 abbrev μ-loop : tie.MeasureT-loop
-μ-loop book count discards left looks most end values₀ j₀ values j = end - j
+μ-loop book count discards left looks₀ end values₀ j₀ looks values j = end - j
 
 prepare-requires : tie.Need-prepare-requires Inv-loop μ-loop
 prepare-requires c κs = c .before .before .before .pre
 
 loop-holds : tie.Need-loop-holds Inv-loop μ-loop
-loop-holds c = (search needs, search needs, filled-none _ _)
+loop-holds c = (search needs, search needs, c .before .prepare .ensures, filled-none _ _)
 
 value-by-requires : tie.Need-value-by-requires Inv-loop μ-loop
 value-by-requires c κs =
-    let good = c .before .before .before .before .before .before .before .before .before .before .before .pre in
-    (good, (supply-left _ _ _ (good) (c .before .before .before .before .before .before .before .before .before .supply .ensures) (c .before .before .before .before .before .before .before .before .guarded .ensures .0) (c .before .before .before .before .before .before .before .before .guarded .ensures .2), c .before .before .before .before .before .before .before .prepare .ensures))
+    let good = c .before .before .before .before .before .before .before .before .pre in
+    let left = c .before .before .before .before .before .guarded .ensures in
+    (good, (supply-left _ _ _ good (c .before .before .before .before .before .before .supply .ensures) (left .0) (left .2), c .before .before .loop .inv .2))
 
 loop-again : tie.Need-loop-again Inv-loop μ-loop
 loop-again c =
-    let l = c .before .before .before .before .loop in
-    (search needs, l .inv .1, filled-next _ _ _ _ _ (omega (arith, c .before .before .before .loop-test .taken, c .before .before .before .before .before .smaller .ensures)) (c .value-by .ensures .0) (l .inv .2))
+    let l = c .before .before .before .loop in (
+      search needs,
+      l .inv .1,
+      c .value-by .ensures .1,
+      filled-next _ _ _ _ _ (omega (arith, c .before .before .loop-test .taken, c .before .before .before .before .smaller .ensures)) (c .value-by .ensures .0 .0) (l .inv .3),
+    )
 
 returns : tie.Need-returns Inv-loop μ-loop
 returns c =
     let l = c .before .loop in
-    each-done _ _ _ (l .j) _ (omega (arith, c .loop-test .left, l .inv .0, c .before .before .smaller .ensures)) (l .inv .2)
+    each-done _ _ _ (l .j) _ (omega (arith, c .loop-test .left, l .inv .0, c .before .before .smaller .ensures)) (l .inv .3)
 
 pub each-spec : {M : Type 1} → statement M
 each-spec =

@@ -20,11 +20,13 @@ prepare-requires c κs = is-sound (c .before .before)
 
 value-by-requires : tie.Need-value-by-requires
 value-by-requires c κs =
-    let good = is-sound (c .before .before .before .before .before .before .before) in
-    (good, (supply-left _ _ _ (good) (c .before .before .before .before .before .before .supply .ensures) (c .before .before .before .before .before .guarded .ensures .0) (c .before .before .before .before .before .guarded .ensures .2), c .before .before .before .before .prepare .ensures))
+    let good = is-sound (c .before .before .before .before) in
+    let left = c .before .before .guarded .ensures in
+    (good, (supply-left _ _ _ good (c .before .before .before .supply .ensures) (left .0) (left .2), c .before .prepare .ensures))
 
 returns-2 : tie.Need-returns-2
-returns-2 c = value-found _ _ _ (refusal-none (c .before .before .before .before .before .before .before .before .before .refusal .ensures) (c .before .before .before .before .before .before .before .before .if1 .left)) (c .value-by .ensures)
+returns-2 c =
+    value-found _ _ _ (refusal-none (c .before .before .before .before .before .before .refusal .ensures) (c .before .before .before .before .before .if1 .left)) (c .value-by .ensures .0)
 
 pub value-of-spec : {M : Type 1} → statement M
 value-of-spec =

@@ -1,41 +1,45 @@
--- `winners::lists::discards` meets its contract. The loop keeps the bytes of the sets passed. Assumes nothing.
+-- `winners::lists::discards` meets its contract. The loop keeps the bytes of the sets of the clients passed. Assumes nothing.
 use borrow.Author.Needs.{needs}
-use mathlib.Core.Path.{_≡_, sym, _∙_}
-use Prim.Native.Nat.{_-_, _^_, _≤_}
+use mathlib.Core.Path.{_≡_}
+use Prim.Native.Nat.{_-_, _≤_}
 use native.Mathlib.Omega.{arith}
-use lib.ListN.{getD}
-use Rattle.sets.specs.Sets.{sum-in}
-use Rattle.sets.proofs.Filled.{Filled, filled-none, filled-next}
-use Rattle.winners.proofs.Tables.{shl-one}
-use Rattle.winners.proofs.Picks.{byte-sum}
+use native.Mathlib.Nat.{le-antisymm}
+use lib.ListN.{length, getD}
+use Rattle.winners.proofs.Picks.{listed-range}
+use Rattle.winners.proofs.Doubling.{Bytes, bytes-none, bytes-room, bytes-next, bytes-done}
 use Rattle.winners.proofs.lists.discards.Statement.{statement}
 use Rattle.winners.proofs.lists.discards.Tie as tie
 
 abbrev Inv-loop : tie.InvT-loop
-Inv-loop count end bits discards₀ set₀ discards set =
-    (end ≡ 2 ^ count) × (end ≤ 64) × (set ≤ end) × Filled 64 (λ L. sum-in count L (λ j. getD bits j 0)) set discards
+Inv-loop count clients discards₀ j₀ discards j = (j ≤ count) × (length clients ≡ 6) × Bytes clients count j discards
 
 abbrev μ-loop : tie.MeasureT-loop
-μ-loop count end bits discards₀ set₀ discards set = end - set
-
-shl-end : tie.Need-shl-end Inv-loop μ-loop
-shl-end c = omega (arith, c .pre .few)
+μ-loop count clients discards₀ j₀ discards j = count - j
 
 loop-holds : tie.Need-loop-holds Inv-loop μ-loop
-loop-holds c = let s = shl-one _ (c .before .pre .few) in (s .0, search needs, search needs, filled-none _ _)
+loop-holds c = (search needs, search needs, bytes-none (c .args .t1) (c .args .count) (c .pre) (search needs))
 
-discard-of-requires : tie.Need-discard-of-requires Inv-loop μ-loop
-discard-of-requires c κs = c .before .before .bits-of .ensures .all
+-- the client at hand is one of 1 to 6
+client : (c : tie.In-loop Inv-loop μ-loop) → let x = getD (c .before .before .args .t1) (c .before .loop .j) 0 in (1 ≤ x) × (x ≤ 6)
+client c = listed-range (c .before .before .args .t1) (c .before .before .args .count) (c .before .loop .j) (c .before .before .pre) (c .before .loop .inv .1) (c .loop-test .taken)
+
+doubled-requires : tie.Need-doubled-requires Inv-loop μ-loop
+doubled-requires c κs =
+    let l = c .before .loop in
+    let s = c .before .before in
+    bytes-room (s .args .t1) (s .args .count) (s .pre) (l .inv .1) (l .j) (c .loop-test .taken) _ (l .inv .2)
 
 loop-again : tie.Need-loop-again Inv-loop μ-loop
 loop-again c =
     let l = c .before .before .loop in
-    (search needs, search needs, search needs, filled-next _ _ _ _ _ (search needs) (c .discard-of .ensures) (l .inv .3))
+    let s = c .before .before .before in
+    (search needs, l .inv .1, bytes-next (s .args .t1) (s .args .count) (s .pre) (l .inv .1) (l .j) (c .before .loop-test .taken) _ (l .inv .2) _ (c .doubled .ensures))
 
 returns : tie.Need-returns Inv-loop μ-loop
-returns c L k =
+returns c =
     let l = c .before .loop in
-    l .inv .3 .below L (omega (arith, c .loop-test .left, l .inv .0)) ∙ sym (byte-sum _ _ _ L (c .before .before .before .pre) (c .before .before .bits-of .ensures) (search needs))
+    let s = c .before .before in
+    bytes-done (s .args .t1) (s .args .count) (s .pre) (l .inv .1) (l .j) (l .discards) (le-antisymm (l .inv .0) (c .loop-test .left)) (l .inv .2)
 
 pub discards-spec : {M : Type 1} → statement M
 discards-spec =
@@ -43,11 +47,12 @@ discards-spec =
     (tie.spec
     Inv-loop
     μ-loop
-    shl-end
-    (λ c κs. search needs)
     loop-holds
-    discard-of-requires
     (λ c. search needs)
+    (λ c. search needs)
+    (λ c. client c .0)
+    (λ c. omega (arith, client c .1))
+    doubled-requires
     (λ c. search needs)
     (λ c. search needs)
     loop-again
