@@ -21,14 +21,14 @@ use Rattle.combinations.proofs.Surplus.{picked-true, true-picked, surplus-is}
 use Rattle.demands.specs.Winners.{clients-of, sigma, win, reserves, rho}
 use Rattle.demands.specs.Questions.{winners-good}
 use Rattle.demands.specs.Input.{book, sheet, Accepted}
-use Rattle.demands.specs.More.{Winners-agree, Without, Greatest-without, Sigma-is, Rho-exact, Sets-suffice}
+use Rattle.demands.specs.More.{Combinations-agree, Without, Greatest-without, Sigma-is, Rho-exact, Sets-suffice}
 use Rattle.demands.proofs.Bools.{false-unless}
 use Rattle.demands.proofs.Winners.{clients-length, clients-at}
 use Rattle.demands.proofs.Suffice.{sets-suffice}
 use Rattle.demands.proofs.Promise.{accepted-in-form, accepted-acceptable}
 
-pub winners-agree : (bs is : List ℕ) → Winners-agree bs is
-unfolding Winners-agree winners-good
+pub winners-agree : (bs is : List ℕ) → Combinations-agree bs is
+unfolding Combinations-agree winners-good
 winners-agree = combinations-agree
 
 pub bounds-suffice : (bs is : List ℕ) → Sets-suffice bs is

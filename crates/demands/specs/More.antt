@@ -24,8 +24,8 @@ use Rattle.demands.specs.Acceptable.{Optimal}
 use Rattle.demands.specs.Answer.{answer-of}
 
 -- QUESTION 8. The one-pass test is a combination by strictly rising client
-unfoldable pub Winners-agree : (bs winners : List ℕ) → Type 0
-Winners-agree bs is = (winners-good (book-in bs) is ≡ true) ↔ (Combination (book-in bs) is × Rising (book-in bs) is)
+unfoldable pub Combinations-agree : (bs winners : List ℕ) → Type 0
+Combinations-agree bs is = (winners-good (book-in bs) is ≡ true) ↔ (Combination (book-in bs) is × Rising (book-in bs) is)
 
 -- σ. No bid is of a client of the set's winners
 unfoldable pub Without : Book → (winners : List ℕ) → (L : ℕ) → (bids : List ℕ) → Type 0

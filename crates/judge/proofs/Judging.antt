@@ -29,6 +29,7 @@ judgement bs r e =
     let number : r .number ≡ input-refusal bs = ap (λ (a : Answer). a .number) e ∙ answered bs .number in
     record {
       fields = e;
+      number-is = number;
       accepted = (λ z. sym number ∙ z, λ a. number ∙ a);
       demand-1 = ⊎-elim (λ (a : Accepted bs). inl (number ∙ a))
           (λ l. inr (le-trans (l .0) (le-of-eq (sym number)), le-trans (le-of-eq number) (l .1), rw e (answered bs .zeros (l .0)))) (demand-1 bs);

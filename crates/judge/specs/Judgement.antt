@@ -4,7 +4,7 @@ use mathlib.Core.Path.{_≡_}
 use mathlib.Core.List.{List}
 use mathlib.Core.Logic.{_⊎_, _↔_}
 use Prim.Native.Nat.{ℕ, _≤_}
-use Rattle.demands.specs.Input.{book, sheet, Accepted}
+use Rattle.demands.specs.Input.{book, sheet, input-refusal, Accepted}
 use Rattle.demands.specs.Answer.{answer-of, Priced, Zeros}
 use Rattle.demands.specs.Promise.{Demand-2, Demand-3}
 use Rattle.prices.specs.declared.Prices.{Prices}
@@ -13,7 +13,8 @@ use Rattle.prices.specs.Answers.{answer-in}
 pub record Judgement (input : List ℕ) (r : Prices) : Type 0 where
   -- number, w, q and all six places, zeros after a refusal included
   pub fields : answer-in r ≡ answer-of input
-  -- number 0 is acceptance, which the demands speak of
+  -- the number is that of the first question answered no, and 0 is acceptance, which the demands speak of
+  pub number-is : r .number ≡ input-refusal input
   pub accepted : (r .number ≡ 0) ↔ Accepted input
   -- 1: the number is 0, or it is 1 to 15 and everything else is 0
   pub demand-1 : (r .number ≡ 0) ⊎ ((1 ≤ r .number) × (r .number ≤ 15) × Zeros (answer-in r))

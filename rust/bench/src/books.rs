@@ -25,4 +25,9 @@ impl Kind {
     pub fn book(&self, seed: u64) -> Vec<u8> {
         write::book(&self.of.book(seed))
     }
+
+    /// The books of the first so many seeds.
+    pub fn books(&self, count: u64) -> Vec<Vec<u8>> {
+        (1..=count).map(|seed| self.book(seed)).collect()
+    }
 }

@@ -1,4 +1,5 @@
-//! Calls that are accepted: a book, the bids that win, and an acceptable sheet for them.
+//! Calls that are accepted: a book, the bids that win, and an acceptable sheet for them; and each in many forms, with its clients and bids
+//! numbered otherwise, so that a processor cannot learn one call's branches by heart.
 
 use crate::books::Kind;
 use crate::search::greatest;
@@ -46,6 +47,22 @@ fn weights(book: &Book, winners: &[usize]) -> Weights {
     }
 }
 
+/// The book with its clients and bids numbered otherwise.
+fn renumbered(book: &Book, seed: u64) -> Book {
+    let mut rng = Rng::new(seed);
+    let mut clients: Vec<usize> = (0..book.status.len()).collect();
+    rng.shuffle(&mut clients);
+    let mut other = book.clone();
+    for (client, &to) in clients.iter().enumerate() {
+        other.status[to] = book.status[client];
+    }
+    for bid in &mut other.bids {
+        bid.client = clients[bid.client - 1] + 1;
+    }
+    rng.shuffle(&mut other.bids);
+    other
+}
+
 /// A book and an acceptable sheet over it.
 #[derive(Clone)]
 pub struct Call {
@@ -65,6 +82,11 @@ impl Call {
     pub fn of_kind(kind: &Kind) -> Call {
         let bytes = kind.book(kind.six_winners);
         Call::over(Book::read(&bytes).expect("the book can be read"))
+    }
+
+    /// The call over its book with clients and bids numbered otherwise, in so many ways.
+    pub fn forms(&self, count: u64) -> Vec<Call> {
+        (1..=count).map(|seed| Call::over(renumbered(&self.book, seed))).collect()
     }
 
     pub fn book_bytes(&self) -> Vec<u8> {

@@ -2,7 +2,8 @@
 
 use crate::calls::Call;
 
-type Damaged = (&'static str, u32, Vec<u8>);
+/// What is wrong, the number it is refused with, and the call.
+pub type Damaged = (&'static str, u32, Vec<u8>);
 
 /// The call with its bytes changed.
 fn bytes(call: &Call, change: impl Fn(&mut Vec<u8>)) -> Vec<u8> {
@@ -27,7 +28,7 @@ fn of_book(call: &Call) -> Vec<Damaged> {
         ("the book's last byte missing", 2, bytes(call, |input| input.truncate(length - 1))),
         ("a supply of 201", 3, fields(call, |call| call.book.supply[0] = 201)),
         ("the last bid's amount 0", 4, fields(call, |call| amount_of_last(call, 0))),
-        ("a ninth bid of a client", 4, fields(call, |call| call.book.bids[47].client = 1)),
+        ("a ninth bid of a client", 4, fields(call, |call| call.book.bids[47].client = call.book.bids[47].client % 6 + 1)),
         ("the last bid below its reserves", 5, fields(call, |call| {
             call.book.reserve[0] = 1;
             amount_of_last(call, 1);

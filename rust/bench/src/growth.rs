@@ -5,34 +5,46 @@ use crate::calls::Call;
 use crate::judge::judge_sheet;
 use crate::timing::{work, Rounds, Work};
 use crate::values;
+use certifier::Prices;
 use reference::Book;
 use std::hint::black_box;
 
-/// What is measured of a call: its book alone, and all of it.
+/// In how many forms a call is measured.
+const FORMS: u64 = 8;
+
+/// What is measured of a call's forms: their books alone, and all of them.
 struct Measured {
-    book: Vec<u8>,
-    input: Vec<u8>,
+    books: Vec<Vec<u8>>,
+    inputs: Vec<Vec<u8>>,
 }
 
 impl Measured {
-    /// The call must be accepted with so many winners, and alike.
+    /// Each form must be accepted with so many winners, and alike.
     fn of(call: &Call, winners: usize) -> Measured {
-        let (book, input) = (call.book_bytes(), call.input());
-        let answer = certifier::judge_sheet(&input);
-        assert_eq!(values::ours(&book), values::asked(&book), "greatest values differ");
-        assert_eq!(answer, judge_sheet(&input), "answers differ");
-        assert_eq!((answer.number, answer.w as usize), (0, winners), "another answer than expected");
-        Measured { book, input }
+        let forms = call.forms(FORMS);
+        let measured = Measured {
+            books: forms.iter().map(Call::book_bytes).collect(),
+            inputs: forms.iter().map(Call::input).collect(),
+        };
+        for (book, input) in measured.books.iter().zip(&measured.inputs) {
+            let answer = certifier::judge_sheet(input);
+            assert_eq!(values::ours(book), values::asked(book), "greatest values differ");
+            assert_eq!(answer, judge_sheet(input), "answers differ");
+            assert_eq!((answer.number, answer.w as usize), (0, winners), "another answer than expected");
+        }
+        measured
     }
 
     /// All 64 greatest values and judging, ours and in Rust by turns.
     fn works(&self) -> [Work<'_>; 4] {
-        let Measured { book, input } = self;
+        let Measured { books, inputs } = self;
+        let valued = |values: fn(&[u8]) -> u64| move || books.iter().map(|book| values(book)).sum::<u64>();
+        let judged = |judge: fn(&[u8]) -> Prices| move || inputs.iter().map(|input| judge(black_box(input)).prices[0]).sum::<u64>();
         [
-            work(|| values::ours(book)),
-            work(|| values::asked(book)),
-            work(|| certifier::judge_sheet(black_box(input))),
-            work(|| judge_sheet(black_box(input))),
+            work(valued(values::ours)),
+            work(valued(values::asked)),
+            work(judged(certifier::judge_sheet)),
+            work(judged(judge_sheet)),
         ]
     }
 }

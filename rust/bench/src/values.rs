@@ -1,10 +1,15 @@
-//! The table of greatest values: all 64 of a full book of each kind.
+//! The table of greatest values: all 64 of full books of each kind.
 
-use crate::books::KINDS;
+use crate::books::{Kind, KINDS};
 use crate::timing::{work, Rounds, Work};
 use crate::shape::Shape;
 use crate::{branch, plain, questions, search};
 use std::hint::black_box;
+
+/// How many books of a kind a turn goes through: so many that a processor cannot learn their branches by heart.
+const MANY: u64 = 32;
+/// How many where a program takes much longer than ours.
+const FEW: u64 = 2;
 
 fn all_sets(value: impl Fn(u8) -> u64) -> u64 {
     (0..64).map(value).sum()
@@ -35,30 +40,52 @@ fn asked_one_by_one(book: &[u8]) -> u64 {
     all_sets(|discard| search::asked_value(black_box(book), discard).unwrap_or(0))
 }
 
-fn row(name: &str, book: &[u8]) {
-    let other = |value: fn(&[u8], u8) -> u64| move || all_sets(|discard| value(black_box(book), discard));
-    let others = [plain::greatest_value, branch::greatest_value].map(other);
-    let ways = [searched, asked, ours_one_by_one, asked_one_by_one];
-    for sum in others.map(|sum| sum()).into_iter().chain(ways.map(|way| way(book))) {
-        assert_eq!(ours(book), sum, "greatest values differ: {name}");
+/// Every way must give the same sum over the books.
+fn assert_alike(name: &str, books: &[Vec<u8>], ways: &[fn(&[u8]) -> u64]) {
+    for book in books {
+        for way in ways {
+            assert_eq!(ours(book), way(book), "greatest values differ: {name}");
+        }
     }
-    let mut works: Vec<Work> = vec![work(|| ours(book))];
-    works.extend(ways.map(|way| work(move || way(book)) as Work));
-    works.extend(others.map(|sum| work(sum) as Work));
-    let rounds = Rounds::of(&works);
-    let [search, asked, plain, branch] = [1, 2, 5, 6].map(|other| rounds.ratio(0, other));
-    let one_by_one = rounds.ratio(3, 4);
-    println!("{name:22}{plain:>10.4}{branch:>18.2}{search:>10.2}{asked:>15.2}{one_by_one:>15.2}");
+}
+
+/// Rounds of each way over all the books.
+fn rounds(books: &[Vec<u8>], ways: &[fn(&[u8]) -> u64]) -> Rounds {
+    let over_all = |&way: &fn(&[u8]) -> u64| work(move || books.iter().map(|book| way(book)).sum::<u64>()) as Work;
+    let works: Vec<Work> = ways.iter().map(over_all).collect();
+    Rounds::of(&works)
+}
+
+fn plainly(book: &[u8]) -> u64 {
+    all_sets(|discard| plain::greatest_value(black_box(book), discard))
+}
+
+fn by_branch(book: &[u8]) -> u64 {
+    all_sets(|discard| branch::greatest_value(black_box(book), discard))
+}
+
+fn row(kind: &Kind) {
+    let ways = [ours, searched, asked, ours_one_by_one, asked_one_by_one];
+    let slow = [ours, plainly, by_branch];
+    let (many, few) = (kind.books(MANY), kind.books(FEW));
+    assert_alike(kind.name, &many, &ways);
+    assert_alike(kind.name, &few, &slow);
+    let rounds_of_many = rounds(&many, &ways);
+    let rounds_of_few = rounds(&few, &slow);
+    let [search, asked] = [1, 2].map(|other| rounds_of_many.ratio(0, other));
+    let one_by_one = rounds_of_many.ratio(3, 4);
+    let [plain, branch] = [1, 2].map(|other| rounds_of_few.ratio(0, other));
+    println!("{:22}{plain:>10.4}{branch:>18.2}{search:>10.2}{asked:>15.2}{one_by_one:>15.2}", kind.name);
 }
 
 pub fn table() {
-    println!("All 64 greatest values of a full book in one call: our time over that in Rust of the plain recursion, of a branch");
+    println!("All 64 greatest values of full books, a book at a call: our time over that in Rust of the plain recursion, of a branch");
     println!("and bound, and of the same search without and with questions 1 to 5, which ours puts too. The last column is one");
     println!("value at a call, with the questions put at each, over the same in Rust.");
     println!();
     let [a, b, c, d, e] = ["plain", "branch and bound", "search", "search, asked", "one by one"];
     println!("{:22}{a:>10}{b:>18}{c:>10}{d:>15}{e:>15}", "kind of book");
     for kind in KINDS {
-        row(kind.name, &kind.book(1));
+        row(&kind);
     }
 }
