@@ -1,7 +1,6 @@
--- The laws of arrays that are filled up with zeros, of question 6 as it is tested, and of what reading a sheet gives.
+-- The laws of arrays that are filled up with zeros, and of what reading a sheet gives.
 pub mod Filled
 pub mod Padded
-pub mod Formed
 pub mod Numbers
 pub mod Outcomes
 pub mod Uses

@@ -10,9 +10,9 @@ use Rattle.ranges.specs.declared.Figures.{Figures}
 use Rattle.ranges.specs.Figures.{certificate}
 use Rattle.demands.specs.Sheet.{sheet-w, numbers-in, sheet-in}
 use Rattle.sheet.specs.Columns.{Filled}
-use Rattle.sheet.specs.Form.{few-good}
+use Rattle.form.specs.Form.{few-good}
 use Rattle.sheet.specs.Reading.{six-of, zero-figures, Sheet-read}
-use Rattle.sheet.proofs.Formed.{few-form, few-winners}
+use Rattle.form.proofs.Formed.{few-form, few-winners}
 use Rattle.sheet.proofs.Padded.{bids-six}
 
 module _ (part : List ℕ) (n : ℕ) where

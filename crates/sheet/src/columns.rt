@@ -1,5 +1,4 @@
 // One number of each winner or of each set, as an array that is filled up with zeros.
-use crate::form::sets_of;
 use book::bytes;
 ghost use mathlib.Core.Path.{_≡_};
 ghost use Prim.Native.Nat.{_+_, _≤_};
@@ -50,7 +49,7 @@ pub(crate) fn sets_column(part: &[u8], w: usize, behind: usize, wide: bool) -> [
     requires { ⌜ Column w behind ⌝ }
     ensures { λ r. ⌜ Sets-read w behind (width wide) (now (part .entry)) r ⌝ }
 {
-    let end = sets_of(w);
+    let end = form::sets_of(w);
     let mut xs = [0; 64];
     let mut set = 1;
     while set < end {

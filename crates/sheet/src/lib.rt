@@ -8,13 +8,10 @@ use ranges::Figures;
 
 mod columns;
 mod figures;
-mod form;
 
 use columns::bids_of;
 use figures::figures_of;
 use figures::no_figures;
-use form::is_form_good;
-use form::winners_of;
 
 // A sheet: 0 or the number of the question that refuses it, the bid numbers of the winners, and its figures.
 pub struct Sheet {
@@ -27,7 +24,7 @@ pub struct Sheet {
 pub fn read(part: &[u8], n: usize) -> Sheet
     ensures { λ r. ⌜ Sheet-read (now (part .entry)) n r ⌝ }
 {
-    if !is_form_good(part, n) {
+    if !form::is_form_good(part, n) {
         let figures = no_figures();
         return Sheet {
             number: 6,
@@ -35,7 +32,7 @@ pub fn read(part: &[u8], n: usize) -> Sheet
             figures: figures,
         };
     }
-    let w = winners_of(part);
+    let w = form::winners_of(part);
     let bids = bids_of(part, w);
     let figures = figures_of(part, w);
     Sheet {

@@ -10,7 +10,7 @@ use reference::Book;
 use std::hint::black_box;
 
 /// In how many forms a call is measured.
-const FORMS: u64 = 8;
+const FORMS: u64 = 4;
 
 /// What is measured of a call's forms: their books alone, and all of them.
 struct Measured {

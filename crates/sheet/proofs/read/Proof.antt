@@ -4,8 +4,8 @@ use mathlib.Core.Bool.{true}
 use Prim.Native.Nat.{_≤_}
 use native.Mathlib.Omega.{arith}
 use borrow.Author.Tests.{not-true, not-false}
-use Rattle.sheet.specs.Form.{few-good}
-use Rattle.sheet.proofs.Formed.{few-winners}
+use Rattle.form.specs.Form.{few-good}
+use Rattle.form.proofs.Formed.{few-winners}
 use Rattle.sheet.proofs.Outcomes.{refused-read, sheet-read}
 use borrow.Author.Needs.{needs}
 use Rattle.sheet.proofs.read.Statement.{statement}

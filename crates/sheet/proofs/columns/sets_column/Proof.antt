@@ -1,6 +1,7 @@
 -- `columns::sets_column` meets its contract. The loop keeps the numbers of the sets that are in. Assumes nothing.
-use mathlib.Core.Path.{sym, _∙_}
-use Prim.Native.Nat.{_+_, _-_, _^_, _≤_}
+use mathlib.Core.Path.{sym, ap, _∙_}
+use Prim.Native.Nat.{ℕ, _+_, _-_, _^_, _≤_}
+use native.Mathlib.Nat.{min-eq-left}
 use native.Mathlib.Omega.{arith}
 use Rattle.book.specs.Bytes.{field}
 use Rattle.demands.specs.Sheet.{set-place}
@@ -31,8 +32,10 @@ loop-again c =
 
 returns : tie.Need-returns Inv-loop μ-loop
 returns c =
-    let end = 2 ^ c .before .before .before .before .args .w in
-    record { reads = filled-all _ {w = end} (omega arith) (omega arith) (c .before .loop .inv .2) .reads ∙ sets-filled _ _ }
+    let s = c .before .before .before .before in
+    let few = ap (λ (n : ℕ). 2 ^ n) (min-eq-left (s .pre .few)) in
+    let end = 2 ^ s .args .w in
+    record { reads = filled-all _ {w = end} (omega (arith, few)) (omega (arith, few)) (c .before .loop .inv .2) .reads ∙ sets-filled _ _ }
 
 pub sets-column-spec : {M : Type 1} → statement M
 sets-column-spec =

@@ -10,7 +10,7 @@ use Rattle.book.specs.Book.{Book, clients}
 use Rattle.book.proofs.Tests.{both-true}
 use Rattle.demands.specs.Sheet.{sheet-w}
 use Rattle.demands.specs.Questions.{form-good}
-use Rattle.sheet.specs.Form.{part-good, few-good}
+use Rattle.form.specs.Form.{part-good, few-good}
 
 pub part-form : (b : Book) (n : ℕ) (bs : List ℕ) → clients b ≡ n → part-good n bs ≡ form-good b bs
 unfolding part-good form-good

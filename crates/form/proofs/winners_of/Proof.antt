@@ -1,8 +1,8 @@
 -- `form::winners_of` meets its contract. Assumes nothing.
 use Rattle.demands.specs.Sheet.{sheet-w}
 use borrow.Author.Needs.{needs}
-use Rattle.sheet.proofs.form.winners_of.Statement.{statement}
-use Rattle.sheet.proofs.form.winners_of.Tie as tie
+use Rattle.form.proofs.winners_of.Statement.{statement}
+use Rattle.form.proofs.winners_of.Tie as tie
 
 returns : tie.Need-returns
 unfolding sheet-w

@@ -2,11 +2,11 @@
 use mathlib.Core.Path.{sym}
 use native.Mathlib.Omega.{arith}
 use Rattle.demands.specs.Sheet.{sheet-long}
-use Rattle.sheet.specs.Form.{part-good}
-use Rattle.sheet.proofs.Formed.{many-refused, few-decided}
+use Rattle.form.specs.Form.{part-good}
+use Rattle.form.proofs.Formed.{many-refused, few-decided}
 use borrow.Author.Needs.{needs}
-use Rattle.sheet.proofs.form.is_form_good.Statement.{statement}
-use Rattle.sheet.proofs.form.is_form_good.Tie as tie
+use Rattle.form.proofs.is_form_good.Statement.{statement}
+use Rattle.form.proofs.is_form_good.Tie as tie
 
 returns : tie.Need-returns
 returns c = sym (many-refused _ _ (omega (arith, c .before .winners-of .ensures)))
