@@ -1,22 +1,18 @@
 -- Ceilings over the clients of a market: they bound the recursion, and tell whose bids may be taken. Cited by the proof of src/search.rt.
 -- Assumes nothing.
-use mathlib.Core.Path.{_≡_, sym, _∙_}
-use mathlib.Core.Bool.{Bool, true, false}
+use mathlib.Core.Path.{_≡_}
 use mathlib.Core.List.{List}
-use mathlib.Core.Logic.{⊎-elim}
 use Prim.Native.Nat.{ℕ, zero, suc, _+_, _*_, _-_, _≤_, _<_, max}
 use native.Mathlib.Nat.{le-refl}
 use native.Mathlib.Numerals.{add-one}
 use native.Mathlib.Omega.{arith}
 use native.Mathlib.Decide.{decLt}
-use borrow.Author.Tests.{ltb-false}
-use lib.Dec.{ltb}
 use lib.ListN.{getD}
 use Rattle.market.specs.Market.{Market}
 use Rattle.market.specs.Greatest.{best}
-use Rattle.market.proofs.Bools.{either}
 use Rattle.market.proofs.Prune.{best-ceiling}
-use Rattle.values.specs.Needs.{Owned, Ceiling, weight-in}
+use Rattle.lookups.specs.Needs.{Owned}
+use Rattle.values.specs.Needs.{Ceiling, weight-in}
 
 -- a bid of one of the clients is one of the bids
 pub owned-inside : (m : Market) (c i : ℕ) → Owned m → 1 ≤ c → m .owner (i + 1) ≡ c → i < m .bids

@@ -2,7 +2,7 @@
 -- out, and the bids of others passed by. And the recursion at a client, in the code's numbers. Cited by the proof of src/search.rt.
 -- Assumes nothing.
 use mathlib.Core.Path.{_≡_, refl, sym, ap, ap₂, _∙_}
-use mathlib.Core.Bool.{Bool, true, false, _&&_, cond, and-false}
+use mathlib.Core.Bool.{Bool, true, false, _&&_, and-false}
 use mathlib.Core.List.{List}
 use mathlib.Core.Logic.{_≢_, ⊎-elim}
 use Prim.Native.Nat.{ℕ, zero, suc, _+_, _-_, _≤_, _<_, max}
@@ -18,7 +18,9 @@ use Rattle.market.specs.Greatest.{open-to, choose, best}
 use Rattle.market.proofs.Bools.{either}
 use Rattle.market.proofs.Choose.{choose-open, choose-shut}
 use Rattle.market.proofs.Prune.{max-lowered, choose-last-pass, choose-skip}
-use Rattle.values.specs.Needs.{Owned, Linked, Head, Turn, weight-in}
+use Rattle.lookups.specs.Needs.{Owned}
+use Rattle.lookups.specs.Prepared.{Linked}
+use Rattle.values.specs.Needs.{Head, Turn, weight-in}
 
 -- the recursion at a client, for a count above 0
 pub best-at : (m : Market) (wt : ℕ → ℕ) (ahead c : ℕ) (ls : List ℕ) → 0 < ahead

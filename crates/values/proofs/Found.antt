@@ -1,26 +1,25 @@
 -- What the search finds in a sound book: the array lays out the market without the clients that are discarded, and the search from floor 0
--- over all clients gives the greatest value, at most 6,000,000. Cited by the proofs of src/lookups.rt, src/tops.rt and src/value.rt.
+-- over all clients gives the greatest value, at most 6,000,000. Cited by the proofs of src/tops.rt and src/value.rt.
 -- Assumes nothing.
-use mathlib.Core.Path.{_≡_, refl, sym, ap, _∙_}
+use mathlib.Core.Path.{_≡_, refl, ap, _∙_}
 use mathlib.Core.Bool.{Bool, true, false, _&&_, not, cond, and-false}
 use mathlib.Core.List.{List}
 use mathlib.Core.Logic.{⊎-elim, inl, inr}
-use Prim.Native.Nat.{ℕ, zero, suc, _+_, _-_, _/_, _^_, _≤_, _<_, max}
+use Prim.Native.Nat.{ℕ, zero, suc, _+_, _*_, _-_, _/_, _^_, _≤_, max}
 use native.Mathlib.Nat.{zero-max}
 use native.Mathlib.Numerals.{add-one}
 use native.Mathlib.Decide.{decLt}
 use native.Mathlib.Omega.{arith}
 use lib.Bits.{bitAnd}
 use lib.Dec.{eqb}
-use lib.ListN.{length, getD, take, List·getD-eq-default}
-use lib.Seq.{getD-take}
+use lib.ListN.{length, getD, List·getD-eq-default}
 use Rattle.sets.specs.Sets.{has}
 use Rattle.sets.proofs.Members.{and-mask}
-use Rattle.sets.proofs.Filled.{Filled}
 use Rattle.book.specs.Book.{Book, client-of, clients, standing, supplies}
 use Rattle.book.specs.Layout.{K-of, book-in}
 use Rattle.book.specs.Sound.{Sound}
-use Rattle.book.proofs.Places.{bids-count, clients-count, supplies-count}
+use Rattle.book.proofs.Soundness.{sound}
+use Rattle.book.proofs.Places.{bids-count, clients-count, supplies-count, supply-at, supply-past}
 use Rattle.market.specs.Market.{Market}
 use Rattle.market.specs.Greatest.{best}
 use Rattle.market.proofs.Bools.{either, and-parts}
@@ -29,11 +28,16 @@ use Rattle.lanes.specs.Lanes.{guarded, Bytes}
 use Rattle.lanes.proofs.Laws.{guarded-short}
 use Rattle.combinations.specs.Combinations.{market, amount-of}
 use Rattle.combinations.specs.Greatest.{without, discarded, greatest, greatest-without}
+use Rattle.combinations.proofs.Refusals.{refusal-none}
 use Rattle.combinations.proofs.Most.{greatest-most}
 use Rattle.hours.specs.Four.{four}
 use Rattle.hours.proofs.Fours.{supply-take}
-use Rattle.values.specs.Needs.{Owned, Links, Firsts, Left, Laid, Largest, Summable, Ready, Turned, Ceiling, Head, Stood, Standing, Looked, Turn, Prepared, weight-in}
-use Rattle.values.proofs.Placing.{owned-sound}
+use Rattle.lookups.specs.Looks.{Looks-are}
+use Rattle.lookups.specs.Needs.{Owned}
+use Rattle.lookups.specs.Prepared.{Links, Laid, Standing, Prepared}
+use Rattle.lookups.proofs.Placing.{owned-sound}
+use Rattle.lookups.proofs.Preparing.{looks-prepared}
+use Rattle.values.specs.Needs.{Left, Turned, Ceiling, Head, Looked, Turn, weight-in}
 
 -- the test by shift and mask
 discarded-bit : (d c : ℕ) → 1 ≤ c → discarded d c ≡ eqb (bitAnd (d / 2 ^ (c - 1)) 1) 1
@@ -45,46 +49,6 @@ discarded-bit d (suc c) l = rw and-mask (ap (λ (k : ℕ). has d k) (omega arith
 pub discarded-turn : (d t : ℕ) → t ≤ 6 → discarded d (7 - t) ≡ eqb (bitAnd (d / 2 ^ (6 - t)) 1) 1
 discarded-turn d t l = let back : 7 - t - 1 ≡ 6 - t = omega arith in rw back at (discarded-bit d (7 - t) (omega arith))
 
--- what is left of the array once clients that do not stand have none
-module _ (b : Book) (xs ys : List ℕ) (h : Stood b 7 xs ys) where
-  stood-first : (c : ℕ) → 1 ≤ c → c ≤ 6 → getD ys (144 + (7 - c)) 0 ≡ cond (standing b c) (getD xs (144 + (7 - c)) 0) 48
-  stood-first c l k = let back : 7 - (7 - c) ≡ c = omega arith in rw back at (h .first (7 - c) (omega arith))
-
-  pub stood-standing : Owned (market b) → Firsts (market b) 0 xs → Largest (market b) 0 xs → Standing b ys
-  unfolding market
-  stood-standing o f g = record {
-    first = λ c l k y. rw (stood-first c l k, y) (f c l k);
-    gone = λ c l k n. rw n at (stood-first c l k);
-    covers = λ j l y. let back : 7 - (7 - client-of b (j + 1)) ≡ client-of b (j + 1) = omega (arith, o .high j) in
-        let z = rw (back, y) at (h .most (7 - client-of b (j + 1)) (omega (arith, o .low j l))) in
-        omega (arith, z, h .low j (omega (arith, o .few)), g j (omega arith) l);
-  }
-
-  pub stood-laid : (m : Market) (wt : ℕ → ℕ) (k : ℕ) → Owned m → Laid m wt k 0 xs → Laid m wt k 0 ys
-  stood-laid m wt k o p = record {
-    weighed = λ j a l. h .low j (omega (arith, o .few)) ∙ p .weighed j a l;
-    asked = λ j a l. rw (h .low (48 + j) (omega (arith, o .few))) (p .asked j a l);
-    linked = λ j a l. rw (h .low (96 + j) (omega (arith, o .few))) (p .linked j a l);
-  }
-
-  pub stood-ready : Ready xs → Ready ys
-  stood-ready r = record {
-    weights-few = λ i l. rw (h .low i (omega arith)) (r .weights-few i l);
-    hours-few = λ i l. rw (h .low (48 + i) (omega arith)) (r .hours-few i l);
-    rises = λ i l. rw (h .low (96 + i) (omega arith)) (r .rises i l);
-  }
-
-  pub stood-summable : Summable xs → Summable ys
-  stood-summable s = record {
-    long = h .long;
-    few = λ t l. omega (arith, share-most (standing b (7 - t)) (getD xs (166 + t) 0), h .most t (omega arith), s .few t l);
-    bottom = h .mid 152 (omega arith) (omega arith) ∙ s .bottom;
-  }
-    where
-      share-most : (y : Bool) (x : ℕ) → cond y x 0 ≤ x
-      share-most true x = omega arith
-      share-most false x = omega arith
-
 -- the supply in lanes
 past-four : (xs : List ℕ) → length xs ≤ 4 → (i : ℕ) → length xs ≤ i → getD (four xs) i 0 ≡ 0
 unfolding four
@@ -94,20 +58,23 @@ past-four xs h (suc (suc zero)) l = List·getD-eq-default xs 0 l
 past-four xs h (suc (suc (suc zero))) l = List·getD-eq-default xs 0 l
 past-four xs h (suc (suc (suc (suc i)))) l = refl
 
-pub supply-left : (bs ls : List ℕ) (left : ℕ) → Sound bs → ls ≡ four (supplies (book-in bs)) → left ≡ guarded 4 ls → Bytes ls
-    → Left (K-of bs) (supplies (book-in bs)) left
-supply-left bs ls left s e g b =
+supply-left : (bs : List ℕ) (left : ℕ) → Sound bs → Bytes bs → left ≡ guarded 4 (four (supplies (book-in bs))) → Left (K-of bs) (supplies (book-in bs)) left
+supply-left bs left s b g =
     let count = supplies-count bs in
-    let cut : take (K-of bs) ls ≡ supplies (book-in bs) = supply-take bs (K-of bs) ls (s .K-high) refl e in
     record {
       kinds = count;
       kinds-few = s .K-high;
-      bytes = λ i. elim (decLt i (K-of bs)) [
-        | yes l ↦ omega (arith, b i, getD-take (K-of bs) ls i 0 l, ap (λ (xs : List ℕ). getD xs i 0) cut)
-        | no l ↦ let z : getD (supplies (book-in bs)) i 0 ≡ 0 = List·getD-eq-default (supplies (book-in bs)) 0 (omega arith) in omega arith
-      ];
-      guards = g ∙ guarded-short (supplies (book-in bs)) ls (rw count cut) (λ i l. ap (λ (xs : List ℕ). getD xs i 0) e ∙ past-four (supplies (book-in bs)) (omega (arith, count, s .K-high)) i l);
+      bytes = λ i. elim (decLt i (K-of bs)) [ yes l ↦ omega (arith, b (4 + 3 * i), supply-at bs i l) | no l ↦ omega (arith, supply-past bs i (omega arith)) ];
+      guards = g ∙ guarded-short (supplies (book-in bs)) _ (rw count (supply-take bs (K-of bs) _ (s .K-high) refl refl)) (past-four (supplies (book-in bs)) (omega (arith, count, s .K-high)));
     }
+
+-- what is made once for a book that is not refused
+pub made-sound : (bs : List ℕ) (n left : ℕ) (xs : List ℕ) → Bytes bs → Looks-are bs n left xs → n ≤ 0
+    → Sound bs × (Left (K-of bs) (supplies (book-in bs)) left × Prepared bs xs)
+made-sound bs n left xs b h l =
+    let none = refusal-none (h .numbered) l in
+    let s = sound bs none in
+    (s, (supply-left bs left s b (rw none at (h .supplied)), rw (rw none at (h .looked)) (looks-prepared bs s b)))
 
 -- what one discard byte changes leaves the rest as it was
 module _ (d : ℕ) (xs ys : List ℕ) where

@@ -11,7 +11,8 @@ use Rattle.market.specs.Market.{fits, less}
 use Rattle.market.proofs.Hours.{less-length}
 use Rattle.lanes.specs.Lanes.{packed, guarded}
 use Rattle.lanes.proofs.Laws.{fit-says, rest-says, less-bytes}
-use Rattle.values.specs.Needs.{Asked, Left}
+use Rattle.lookups.specs.Prepared.{Asked}
+use Rattle.values.specs.Needs.{Left}
 
 module _ (k : ℕ) (hs ls : List ℕ) (pack left : ℕ) (a : Asked k hs pack) (h : Left k ls left) where
   same : left - pack ≡ guarded 4 ls - packed hs

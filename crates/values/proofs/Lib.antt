@@ -1,6 +1,4 @@
 -- The laws that the proofs of this crate cite.
-pub mod Placing
-pub mod Filling
 pub mod Turning
 pub mod Found
 pub mod Answers

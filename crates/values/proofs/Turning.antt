@@ -1,6 +1,6 @@
--- What the search looks up of the clients, filled entry by entry from the last client back: who stands; and for one discard byte the ceilings
--- and the first bids of those that stay. Cited by the proofs of src/lookups.rt and src/tops.rt. Assumes nothing.
-use mathlib.Core.Path.{_≡_, refl, sym, ap, _∙_}
+-- What the search looks up for one discard byte, filled entry by entry from the last client back: the ceilings and the first bids of those that
+-- stay. Cited by the proof of src/tops.rt. Assumes nothing.
+use mathlib.Core.Path.{_≡_, sym, ap, _∙_}
 use mathlib.Core.Bool.{Bool, true, false, cond}
 use mathlib.Core.List.{List}
 use mathlib.Core.Logic.{_≢_, ⊎-elim}
@@ -10,38 +10,7 @@ use native.Mathlib.Decide.{ℕ-discrete}
 use native.Mathlib.Omega.{arith}
 use lib.ListN.{length, getD, set, length-set}
 use lib.Seq.{getD-set-same, getD-set-other}
-use Rattle.book.specs.Book.{Book, standing}
-use Rattle.values.specs.Needs.{Topped, Headed, Kept, Stood}
-
--- ---- who stands
-
-pub stood-none : (b : Book) (xs : List ℕ) → length xs ≡ 173 → Stood b 0 xs xs
-stood-none b xs long = record { long = long; first = λ t l. absurd (omega arith); most = λ t l. absurd (omega arith); low = λ p l. refl; mid = λ p l k. refl; high = λ p l. refl }
-
-pub stood-next : (b : Book) (n : ℕ) (xs ys : List ℕ) (f w : ℕ) → n < 7 → f ≡ cond (standing b (7 - n)) (getD ys (144 + n) 0) 48
-    → w ≡ cond (standing b (7 - n)) (getD (set ys (144 + n) f) (166 + n) 0) 0 → Stood b n xs ys → Stood b (n + 1) xs (set (set ys (144 + n) f) (166 + n) w)
-stood-next b n xs ys f w l ef ew h =
-    let long = h .long in
-    let other : (j : ℕ) → j ≢ 144 + n → j ≢ 166 + n → getD (set (set ys (144 + n) f) (166 + n) w) j 0 ≡ getD ys j 0
-    = λ j p q. getD-set-other (set ys (144 + n) f) (166 + n) j w 0 q ∙ getD-set-other ys (144 + n) j f 0 p in
-    let most : getD (set ys (144 + n) f) (166 + n) 0 ≡ getD xs (166 + n) 0 = getD-set-other ys (144 + n) (166 + n) f 0 (λ q. omega arith) ∙ h .high (166 + n) (le-refl _) in
-    record {
-      long = length-set (set ys (144 + n) f) (166 + n) w ∙ length-set ys (144 + n) f ∙ long;
-      first = λ t k. elim (ℕ-discrete t n) [
-        | yes e ↦ rw e (getD-set-other (set ys (144 + n) f) (166 + n) (144 + n) w 0 (λ q. omega arith) ∙ getD-set-same ys (144 + n) f 0 (omega arith)
-            ∙ ef ∙ ap (λ (x : ℕ). cond (standing b (7 - n)) x 48) (h .mid (144 + n) (le-refl _) (omega arith)))
-        | no d ↦ other (144 + t) (λ q. d (omega arith)) (λ q. omega arith) ∙ h .first t (omega arith)
-      ];
-      most = λ t k. elim (ℕ-discrete t n) [
-        | yes e ↦ rw e (getD-set-same (set ys (144 + n) f) (166 + n) w 0 (omega (arith, length-set ys (144 + n) f)) ∙ ew ∙ ap (λ (x : ℕ). cond (standing b (7 - n)) x 0) most)
-        | no d ↦ other (166 + t) (λ q. omega arith) (λ q. d (omega arith)) ∙ h .most t (omega arith)
-      ];
-      low = λ p k. other p (λ q. omega arith) (λ q. omega arith) ∙ h .low p k;
-      mid = λ p k u. other p (λ q. omega arith) (λ q. omega arith) ∙ h .mid p (omega arith) u;
-      high = λ p k. other p (λ q. omega arith) (λ q. omega arith) ∙ h .high p (omega arith);
-    }
-
--- ---- for one discard byte
+use Rattle.values.specs.Needs.{Topped, Headed, Kept}
 
 module _ (on : ℕ → Bool) (t sum : ℕ) (l : t < 6) (v h : ℕ) (xs : List ℕ) (long : length xs ≡ 173) where
   abbrev turned : List ℕ

@@ -3,8 +3,6 @@
 // What a client may cite: `value_of`, for one discard byte, and `values_of`, for up to 64 of them, for which questions 1 to 5 are put once and
 // what the search looks up is made once. Each takes any bytes, asks nothing of its caller, and its contract gives every field of its
 // answer as a value (specs/Values.antt).
-mod lookups;
-mod places;
 mod search;
 mod tops;
 mod value;

@@ -8,7 +8,8 @@ ghost use lib.Bits.{bitAnd};
 ghost use lib.Dec.{eqb, ltb};
 ghost use Rattle.market.specs.Market.{Market};
 ghost use Rattle.market.specs.Greatest.{best};
-ghost use Rattle.values.specs.Needs.{Ready, Left, Looked, Turn, weight-in};
+ghost use Rattle.lookups.specs.Prepared.{Ready};
+ghost use Rattle.values.specs.Needs.{Left, Looked, Turn, weight-in};
 
 // Whether the most that a choice can come to is more than what is found.
 fn beats(most: u64, top: u64) -> bool

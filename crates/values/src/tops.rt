@@ -1,6 +1,6 @@
 // What the search looks up for one discard byte: the ceilings, and the first bids of the clients that stay.
-use crate::lookups;
-ghost use Rattle.values.specs.Needs.{Summable, Turned};
+ghost use Rattle.lookups.specs.Prepared.{Summable};
+ghost use Rattle.values.specs.Needs.{Turned};
 
 // By the clients left, the sum of the largest weights of those that are not discarded, from place 152 on, and the first bid of each of them,
 // from place 159 on. Bit 0 of the byte is client 1.

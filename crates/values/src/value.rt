@@ -1,5 +1,4 @@
-// Greatest values with clients discarded: questions 1 to 5, and for each discard byte the search from floor 0.
-use crate::lookups;
+// Greatest values with clients discarded: what the search looks up, made once, and for each discard byte the search from floor 0.
 use crate::search;
 use crate::tops;
 ghost use mathlib.Core.Path.{_≡_};
@@ -8,7 +7,8 @@ ghost use Rattle.book.specs.Book.{supplies};
 ghost use Rattle.book.specs.Layout.{K-of, book-in};
 ghost use Rattle.book.specs.Sound.{Sound};
 ghost use Rattle.combinations.specs.Greatest.{greatest};
-ghost use Rattle.values.specs.Needs.{Left, Prepared};
+ghost use Rattle.lookups.specs.Prepared.{Prepared};
+ghost use Rattle.values.specs.Needs.{Left};
 ghost use Rattle.values.specs.Values.{values-of, Value-is, Values-are};
 
 // One greatest value; 0 after a refusal.
@@ -39,31 +39,34 @@ fn value_by(book: &[u8], discard: u8, left: u64, looks: &mut [u64; 173]) -> u64
 pub fn value_of(book: &[u8], discard: u8) -> Value
     ensures { λ r. ⌜ Value-is (now (book .entry)) discard (r .number) (r .value) ⌝ }
 {
-    let refused = questions::refusal(book);
-    if 0 < refused {
-        return Value {
-            number: refused as u32,
-            value: 0,
-        };
+    let made = lookups::lay_out(book);
+    let number = made.number;
+    if 0 < number {
+        return Value { number, value: 0 };
     }
-    let left = lanes::guarded(hours::supply(book));
-    let mut looks = lookups::prepare(book);
-    let value = value_by(book, discard, left, &mut looks);
-    Value { number: 0, value }
+    let mut looks = made.looks;
+    let value = value_by(book, discard, made.left, &mut looks);
+    Value { number, value }
 }
 
 // The values of the first of 64 discard bytes, of a sound book.
-fn each(book: &[u8], discards: [u8; 64], count: usize) -> [u64; 64]
+fn each(
+    book: &[u8],
+    discards: [u8; 64],
+    count: usize,
+    left: u64,
+    looks: &mut [u64; 173],
+) -> [u64; 64]
     requires { ⌜ Sound (now book) ⌝ }
+    requires { ⌜ Left (K-of (now book)) (supplies (book-in (now book))) left ⌝ }
+    requires { ⌜ Prepared (now book) (now looks) ⌝ }
     ensures { λ r. ⌜ r ≡ values-of (now (book .entry)) discards count ⌝ }
 {
-    let left = lanes::guarded(hours::supply(book));
-    let mut looks = lookups::prepare(book);
     let end = numbers::smaller(count, 64);
     let mut values = [0u64; 64];
     let mut j: usize = 0;
     while j < end {
-        values[j] = value_by(book, discards[j], left, &mut looks);
+        values[j] = value_by(book, discards[j], left, looks);
         j += 1;
     }
     values
@@ -73,13 +76,15 @@ fn each(book: &[u8], discards: [u8; 64], count: usize) -> [u64; 64]
 pub fn values_of(book: &[u8], discards: [u8; 64], count: usize) -> Values
     ensures { λ r. ⌜ Values-are (now (book .entry)) discards count (r .number) (r .values) ⌝ }
 {
-    let refused = questions::refusal(book);
-    if 0 < refused {
+    let made = lookups::lay_out(book);
+    let number = made.number;
+    if 0 < number {
         return Values {
-            number: refused as u32,
+            number,
             values: [0; 64],
         };
     }
-    let values = each(book, discards, count);
-    Values { number: 0, values }
+    let mut looks = made.looks;
+    let values = each(book, discards, count, made.left, &mut looks);
+    Values { number, values }
 }

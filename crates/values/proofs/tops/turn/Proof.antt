@@ -4,7 +4,7 @@ use borrow.Author.Needs.{needs}
 use mathlib.Core.Path.{_≡_, refl, sym, ap, _∙_}
 use mathlib.Core.Bool.{Bool, not, cond}
 use mathlib.Core.Logic.{inr}
-use Prim.Native.Nat.{ℕ, _+_, _*_, _-_, _≤_}
+use Prim.Native.Nat.{ℕ, _+_, _-_, _≤_}
 use native.Mathlib.Nat.{le-refl, le-trans, le-of-eq, le-antisymm}
 use native.Mathlib.Omega.{arith}
 use lib.ListN.{length, getD, set, length-set}
@@ -14,8 +14,6 @@ use Rattle.values.proofs.Turning.{kept-next, topped-none, topped-next, 
 use Rattle.values.proofs.Found.{discarded-turn}
 use Rattle.values.proofs.tops.turn.Statement.{statement}
 use Rattle.values.proofs.tops.turn.Tie as tie
-use Rattle.values.proofs.tops.turn.Reads as reads
-use Rattle.values.proofs.tops.turn.Lts as lts
 
 abbrev on : (discard : ℕ) → ℕ → Bool
 on d t = not (discarded d (7 - t))

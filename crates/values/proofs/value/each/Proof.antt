@@ -7,30 +7,25 @@ use lib.ListN.{length, getD}
 use Rattle.book.specs.Layout.{book-in}
 use Rattle.combinations.specs.Greatest.{greatest}
 use Rattle.sets.proofs.Filled.{Filled, filled-none, filled-next}
-use Rattle.values.specs.Needs.{Prepared}
-use Rattle.values.proofs.Found.{supply-left}
+use Rattle.lookups.specs.Prepared.{Prepared}
 use Rattle.values.proofs.Answers.{each-done}
 use Rattle.values.proofs.value.each.Statement.{statement}
 use Rattle.values.proofs.value.each.Tie as tie
 
 abbrev Inv-loop : tie.InvT-loop
-Inv-loop book count discards left looks₀ end values₀ j₀ looks values j =
+Inv-loop book count left looks₀ discards end values₀ j₀ looks values j =
     (j ≤ end) × (length discards ≡ 64) × Prepared book looks × Filled 64 (λ i. greatest (book-in book) (getD discards i 0)) j values
 
 abbrev μ-loop : tie.MeasureT-loop
-μ-loop book count discards left looks₀ end values₀ j₀ looks values j = end - j
-
-prepare-requires : tie.Need-prepare-requires Inv-loop μ-loop
-prepare-requires c κs = c .before .before .before .pre
+μ-loop book count left looks₀ discards end values₀ j₀ looks values j = end - j
 
 loop-holds : tie.Need-loop-holds Inv-loop μ-loop
-loop-holds c = (search needs, search needs, c .before .prepare .ensures, filled-none _ _)
+loop-holds c = (search needs, search needs, c .before .before .pre .1 .1, filled-none _ _)
 
 value-by-requires : tie.Need-value-by-requires Inv-loop μ-loop
 value-by-requires c κs =
-    let good = c .before .before .before .before .before .before .before .before .pre in
-    let left = c .before .before .before .before .before .guarded .ensures in
-    (good, (supply-left _ _ _ good (c .before .before .before .before .before .before .supply .ensures) (left .0) (left .2), c .before .before .loop .inv .2))
+    let p = c .before .before .before .before .before .pre in
+    (p .0, (p .1 .0, c .before .before .loop .inv .2))
 
 loop-again : tie.Need-loop-again Inv-loop μ-loop
 loop-again c =
@@ -52,9 +47,6 @@ each-spec =
     (tie.spec
     Inv-loop
     μ-loop
-    (λ c κs. search needs)
-    (λ c κs. search needs)
-    prepare-requires
     (λ c κs. search needs)
     loop-holds
     (λ c. search needs)

@@ -1,5 +1,4 @@
 -- `values::value::value_by` meets its contract. Assumes nothing.
-use borrow.Author.Needs.{needs}
 use Rattle.book.specs.Book.{supplies}
 use Rattle.book.specs.Layout.{K-of, book-in}
 use Rattle.lanes.proofs.Laws.{guarded-least}

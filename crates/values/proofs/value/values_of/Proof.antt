@@ -1,19 +1,21 @@
 -- `values::value::values_of` meets its contract. Assumes nothing.
 use borrow.Author.Needs.{needs}
-use Rattle.book.proofs.Soundness.{sound}
-use Rattle.combinations.proofs.Refusals.{refusal-none}
+use native.Mathlib.Omega.{arith}
+use Rattle.values.proofs.Found.{made-sound}
 use Rattle.values.proofs.Answers.{values-refused, values-found}
 use Rattle.values.proofs.value.values_of.Statement.{statement}
 use Rattle.values.proofs.value.values_of.Tie as tie
 
 returns : tie.Need-returns
-returns c = values-refused _ _ _ _ (c .before .refusal .ensures) (c .if1 .taken)
+returns c = values-refused _ _ _ _ (c .before .lay-out .ensures .numbered) (c .if1 .taken)
 
 each-requires : tie.Need-each-requires
-each-requires c κs = sound _ (refusal-none (c .before .refusal .ensures) (c .if1 .left))
+each-requires c κs =
+    let e = c .before .before .before in
+    made-sound _ _ _ _ (λ i. omega (arith, e .before .shared-slice-known .given i)) (e .lay-out .ensures) (c .before .before .if1 .left)
 
 returns-2 : tie.Need-returns-2
-returns-2 c = values-found _ _ _ _ (refusal-none (c .before .before .refusal .ensures) (c .before .if1 .left)) (c .each .ensures)
+returns-2 c = values-found _ _ _ _ _ (c .before .before .before .before .lay-out .ensures .numbered) (c .before .before .before .if1 .left) (c .each .ensures)
 
 pub values-of-spec : {M : Type 1} → statement M
-values-of-spec = tie.close (tie.spec (λ c κs. search needs) (λ c. search needs) returns each-requires returns-2)
+values-of-spec = tie.close (tie.spec (λ c κs. search needs) returns each-requires returns-2)

@@ -1,5 +1,5 @@
--- What the search looks up of the bids, filled entry by entry from the last bid back: weights, hours, links, first bids and largest weights.
--- Cited by the proofs of src/lookups.rt. Assumes nothing.
+-- What the array holds of the bids passed, from the last back: weights, hours, links, first bids and largest weights. Cited by
+-- Preparing.antt. Assumes nothing.
 use mathlib.Core.Path.{_≡_, _∙_}
 use mathlib.Core.List.{List}
 use mathlib.Core.Logic.{_≢_}
@@ -7,26 +7,21 @@ use Prim.Native.Nat.{ℕ, _+_, _-_, _≤_, _<_, max}
 use native.Mathlib.Nat.{le-refl}
 use native.Mathlib.Decide.{ℕ-discrete}
 use native.Mathlib.Omega.{arith}
-use lib.ListN.{length, getD, set, replicate, length-set, length-replicate, getD-replicate}
+use lib.ListN.{length, getD, set, length-set}
 use lib.Seq.{getD-set-same, getD-set-other}
 use Rattle.market.specs.Market.{Market}
-use Rattle.values.specs.Needs.{Owned, Linked, Firsts, Asked, Laid, Largest, Summable, Ready, Blank}
+use Rattle.lookups.specs.Looks.{stored}
+use Rattle.lookups.specs.Needs.{Owned}
+use Rattle.lookups.specs.Prepared.{Linked, Asked, Laid, Summable, Ready}
+use Rattle.lookups.proofs.Storing.{Blank}
 
--- ---- no bid yet
+-- each client is linked to its first of the bids from i on
+abbrev pub Firsts : Market → (i : ℕ) → List ℕ → Type 0
+Firsts m i xs = (c : ℕ) → 1 ≤ c → c ≤ 6 → Linked m c i (getD xs (144 + (7 - c)) 0)
 
--- all entries are 48, and the lowest ceiling is 0
-abbrev pub filled : List ℕ
-filled = replicate 173 48
-
-pub blank-first : (xs : List ℕ) → xs ≡ set filled 152 0 → (length xs ≡ 173) × ((j : ℕ) → j < 152 → getD xs j 0 ≡ 48) × (getD xs 152 0 ≡ 0)
-blank-first xs e =
-    let all : (j : ℕ) → j < 173 → getD filled j 0 ≡ 48 = λ j l. getD-replicate {A = ℕ} 173 j 48 0 l in
-    let long : length filled ≡ 173 = length-replicate {A = ℕ} 173 48 in
-    rw e (
-      length-set filled 152 0 ∙ long,
-      (λ j l. getD-set-other filled 152 j 0 0 (λ q. omega arith) ∙ all j (omega arith)),
-      getD-set-same filled 152 0 0 (omega arith),
-    )
+-- each of the bids from i on weighs at most its client's entry, which stands by the clients from it on
+abbrev pub Largest : Market → (i : ℕ) → List ℕ → Type 0
+Largest m i xs = (j : ℕ) → i ≤ j → j < m .bids → getD xs j 0 ≤ getD xs (166 + (7 - m .owner (j + 1))) 0
 
 module _ (m : Market) (o : Owned m) where
   linked-itself : (p c : ℕ) → m .owner (p + 1) ≡ c → Linked m c p p
@@ -48,7 +43,7 @@ module _ (m : Market) (o : Owned m) where
       rw (b .links (144 + (7 - c)) (omega arith)) (record { after = o .few; own = λ k. absurd (omega arith); none = λ t k n e. omega (arith, o .none t k) })
 
   -- one bid more, in front: bid p, of the client with t clients from it on
-  module _ (p t : ℕ) (l : p < m .bids) (et : t ≡ 7 - m .owner (p + 1)) (w v x u : ℕ) (xs : List ℕ) (ex : x ≡ getD xs (144 + t) 0) (long : length xs ≡ 173) where
+  module _ (p t : ℕ) (l : p < m .bids) (et : t ≡ 7 - m .owner (p + 1)) (w v : ℕ) (xs : List ℕ) (long : length xs ≡ 173) where
     few : p < 48
     few = omega (arith, o .few)
 
@@ -58,17 +53,24 @@ module _ (m : Market) (o : Owned m) where
     near : (1 ≤ t) × (t ≤ 6)
     near = (omega (arith, o .high p), omega (arith, o .low p l))
 
-    -- five stores: the link, the client's first bid, the weight, the hours and the client's largest weight
+    -- the bid's link, and its client's largest weight
+    abbrev x : ℕ
+    x = getD xs (144 + t) 0
+
+    abbrev u : ℕ
+    u = max (getD xs (166 + t) 0) w
+
+    -- the link and the client's first bid are stored, and then all five
     abbrev linked-one : List ℕ
     linked-one = set (set xs (96 + p) x) (144 + t) p
 
-    abbrev stored : List ℕ
-    stored = set (set (set linked-one p w) (48 + p) v) (166 + t) u
+    abbrev filled : List ℕ
+    filled = stored p t w v xs
 
-    stored-long : length stored ≡ 173
-    stored-long = simp length-set long
+    filled-long : length filled ≡ 173
+    filled-long = simp length-set long
 
-    other : (j : ℕ) → j ≢ p → j ≢ 48 + p → j ≢ 96 + p → j ≢ 144 + t → j ≢ 166 + t → getD stored j 0 ≡ getD xs j 0
+    other : (j : ℕ) → j ≢ p → j ≢ 48 + p → j ≢ 96 + p → j ≢ 144 + t → j ≢ 166 + t → getD filled j 0 ≡ getD xs j 0
     other j a b c d e =
         getD-set-other (set (set linked-one p w) (48 + p) v) (166 + t) j u 0 e
         ∙ getD-set-other (set linked-one p w) (48 + p) j v 0 b
@@ -76,20 +78,20 @@ module _ (m : Market) (o : Owned m) where
         ∙ getD-set-other (set xs (96 + p) x) (144 + t) j p 0 d
         ∙ getD-set-other xs (96 + p) j x 0 c
 
-    at-weight : getD stored p 0 ≡ w
+    at-weight : getD filled p 0 ≡ w
     at-weight =
         let inside = few in
         getD-set-other (set (set linked-one p w) (48 + p) v) (166 + t) p u 0 (λ q. omega arith)
         ∙ getD-set-other (set linked-one p w) (48 + p) p v 0 (λ q. omega arith)
         ∙ getD-set-same linked-one p w 0 (omega (arith, length-set (set xs (96 + p) x) (144 + t) p, length-set xs (96 + p) x))
 
-    at-hours : getD stored (48 + p) 0 ≡ v
+    at-hours : getD filled (48 + p) 0 ≡ v
     at-hours =
         let inside = few in
         getD-set-other (set (set linked-one p w) (48 + p) v) (166 + t) (48 + p) u 0 (λ q. omega arith)
         ∙ getD-set-same (set linked-one p w) (48 + p) v 0 (omega (arith, length-set linked-one p w, length-set (set xs (96 + p) x) (144 + t) p, length-set xs (96 + p) x))
 
-    at-link : getD stored (96 + p) 0 ≡ x
+    at-link : getD filled (96 + p) 0 ≡ x
     at-link =
         let inside = few in
         let (low, high) = near in
@@ -99,7 +101,7 @@ module _ (m : Market) (o : Owned m) where
         ∙ getD-set-other (set xs (96 + p) x) (144 + t) (96 + p) p 0 (λ q. omega arith)
         ∙ getD-set-same xs (96 + p) x 0 (omega arith)
 
-    at-first : getD stored (144 + t) 0 ≡ p
+    at-first : getD filled (144 + t) 0 ≡ p
     at-first =
         let inside = few in
         let (low, high) = near in
@@ -108,7 +110,7 @@ module _ (m : Market) (o : Owned m) where
         ∙ getD-set-other linked-one p (144 + t) w 0 (λ q. omega arith)
         ∙ getD-set-same (set xs (96 + p) x) (144 + t) p 0 (omega (arith, length-set xs (96 + p) x))
 
-    at-most : getD stored (166 + t) 0 ≡ u
+    at-most : getD filled (166 + t) 0 ≡ u
     at-most =
         let (low, high) = near in
         getD-set-same (set (set linked-one p w) (48 + p) v) (166 + t) u 0
@@ -119,9 +121,9 @@ module _ (m : Market) (o : Owned m) where
     after h =
         let (low, high) = near in
         let back : 7 - (7 - t) ≡ t = omega arith in
-        rw ex (rw back at (h (7 - t) (omega arith) (omega arith)))
+        rw back at (h (7 - t) (omega arith) (omega arith))
 
-    pub firsts-next : Firsts m (p + 1) xs → Firsts m p stored
+    pub firsts-next : Firsts m (p + 1) xs → Firsts m p filled
     firsts-next h c a b =
         let inside = few in
         let (low, high) = near in
@@ -132,7 +134,7 @@ module _ (m : Market) (o : Owned m) where
         ]
 
     module _ (wt : ℕ → ℕ) (k : ℕ) (h : Laid m wt k (p + 1) xs) where
-      pub laid-next : Firsts m (p + 1) xs → w ≡ wt (p + 1) → Asked k (m .hours (p + 1)) v → Laid m wt k p stored
+      pub laid-next : Firsts m (p + 1) xs → w ≡ wt (p + 1) → Asked k (m .hours (p + 1)) v → Laid m wt k p filled
       laid-next f ew a =
           let inside = few in
           let (low, high) = near in
@@ -153,7 +155,7 @@ module _ (m : Market) (o : Owned m) where
           }
 
     -- numbers few enough, and links that lead on
-    pub ready-next : Firsts m (p + 1) xs → w ≤ 4294967295 → v ≤ 71777214294589695 → Ready xs → Ready stored
+    pub ready-next : Firsts m (p + 1) xs → w ≤ 4294967295 → v ≤ 71777214294589695 → Ready xs → Ready filled
     ready-next f fw fv r =
         let inside = few in
         let (low, high) = near in
@@ -173,13 +175,13 @@ module _ (m : Market) (o : Owned m) where
         }
 
     -- the largest weights
-    pub largest-next : u ≡ max (getD xs (166 + t) 0) w → Largest m (p + 1) xs → Largest m p stored
-    largest-next eu h j a b =
+    pub largest-next : Largest m (p + 1) xs → Largest m p filled
+    largest-next h j a b =
         let inside = few in
         let (low, high) = near in
         let most = o .few in
         let at : 7 - m .owner (j + 1) ≤ 6 = omega (arith, o .low j b) in
-        let grown : getD xs (166 + (7 - m .owner (j + 1))) 0 ≤ getD stored (166 + (7 - m .owner (j + 1))) 0
+        let grown : getD xs (166 + (7 - m .owner (j + 1))) 0 ≤ getD filled (166 + (7 - m .owner (j + 1))) 0
         = elim (ℕ-discrete (7 - m .owner (j + 1)) t) [
           | yes e ↦ rw (e, at-most) (omega arith)
           | no n ↦ omega (arith, other (166 + (7 - m .owner (j + 1))) (λ q. omega arith) (λ q. omega arith) (λ q. omega arith) (λ q. omega arith) (λ q. n (omega arith)))
@@ -189,12 +191,12 @@ module _ (m : Market) (o : Owned m) where
           | no n ↦ omega (arith, other j n (λ q. omega arith) (λ q. omega arith) (λ q. omega arith) (λ q. omega arith), h j (omega arith) b, grown)
         ]
 
-    pub summable-next : u ≡ max (getD xs (166 + t) 0) w → w ≤ 4294967295 → Summable xs → Summable stored
-    summable-next eu fw s =
+    pub summable-next : w ≤ 4294967295 → Summable xs → Summable filled
+    summable-next fw s =
         let inside = few in
         let (low, high) = near in
         record {
-          long = stored-long;
+          long = filled-long;
           few = λ j b. elim (ℕ-discrete j t) [
             | yes e ↦ rw (e, at-most) (omega (arith, s .few t high))
             | no n ↦ rw (other (166 + j) (λ q. omega arith) (λ q. omega arith) (λ q. omega arith) (λ q. omega arith) (λ q. n (omega arith))) (s .few j b)

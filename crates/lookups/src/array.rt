@@ -1,5 +1,5 @@
-// What the search looks up whoever is discarded, made once for a call: for each bid its weight, its hours in lanes and the next bid of its
-// client; for each client that stands its first bid and the largest weight among its bids. One array holds all that the search looks up.
+// One array for all that the search looks up whoever is discarded: for each bid its weight, its hours in lanes and the next bid of its client;
+// for each client that stands its first bid and the largest weight among its bids.
 use crate::places;
 use book::bytes;
 use book::entries;
@@ -9,12 +9,13 @@ ghost use mathlib.Core.Bool.{cond};
 ghost use lib.ListN.{length};
 ghost use Rattle.book.specs.Layout.{book-in};
 ghost use Rattle.book.specs.Sound.{Sound};
-ghost use Rattle.combinations.specs.Combinations.{market, amount-of};
-ghost use Rattle.values.specs.Needs.{Placed, Owned, Laid, Firsts, Largest, Ready, Summable, Blank, Stood, Prepared};
+ghost use Rattle.combinations.specs.Combinations.{market};
+ghost use Rattle.lookups.specs.Needs.{Placed, Owned};
+ghost use Rattle.lookups.specs.Looks.{blank, laid, stood, looks-of};
 
 // No bid yet: every link leads to none, which is 48, and ceilings and largest weights are 0.
 fn blank() -> [u64; 173]
-    ensures { λ r. ⌜ Blank r ⌝ }
+    ensures { λ r. ⌜ r ≡ blank ⌝ }
 {
     let mut looks = [48u64; 173];
     looks[152] = 0;
@@ -32,11 +33,7 @@ fn blank() -> [u64; 173]
 fn look_up(book: &[u8], k: usize, m: usize, from: usize) -> [u64; 173]
     requires { ⌜ Placed (now book) k m from ⌝ }
     requires { ⌜ Owned (market (book-in (now book))) ⌝ }
-    ensures { λ r. ⌜ Laid (market (book-in (now (book .entry)))) (amount-of (book-in (now (book .entry)))) k 0 r ⌝ }
-    ensures { λ r. ⌜ Firsts (market (book-in (now (book .entry)))) 0 r ⌝ }
-    ensures { λ r. ⌜ Largest (market (book-in (now (book .entry)))) 0 r ⌝ }
-    ensures { λ r. ⌜ Ready r ⌝ }
-    ensures { λ r. ⌜ Summable r ⌝ }
+    ensures { λ r. ⌜ r ≡ laid (book-in (now (book .entry))) m blank ⌝ }
 {
     let mut looks = blank();
     let mut i = m;
@@ -56,7 +53,7 @@ fn look_up(book: &[u8], k: usize, m: usize, from: usize) -> [u64; 173]
 }
 
 // The first bid of a client that counts, and of one that does not none: 48.
-pub(crate) fn first_own(on: bool, first: u64) -> u64
+pub fn first_own(on: bool, first: u64) -> u64
     ensures { λ r. ⌜ r ≡ cond on first 48 ⌝ }
 {
     if on { first } else { 48 }
@@ -65,13 +62,15 @@ pub(crate) fn first_own(on: bool, first: u64) -> u64
 // Clients that do not stand have no first bid, and no largest weight.
 fn stand(book: &[u8], looks: &mut [u64; 173])
     requires { ⌜ length (now looks) ≡ 173 ⌝ }
-    ensures { λ _. ⌜ Stood (book-in (now (book .entry))) 7 (now (looks .entry)) (now (looks .exit)) ⌝ }
+    ensures { λ _. ⌜ now (looks .exit) ≡ stood (book-in (now (book .entry))) 7 0 (now (looks .entry)) ⌝ }
 {
     let mut t: usize = 0;
     while t < 7 {
         let on = entries::is_standing(book, 7 - t);
-        looks[144 + t] = first_own(on, looks[144 + t]);
-        looks[166 + t] = numbers::share(on, looks[166 + t]);
+        let first = first_own(on, looks[144 + t]);
+        let most = numbers::share(on, looks[166 + t]);
+        looks[144 + t] = first;
+        looks[166 + t] = most;
         t += 1;
     }
 }
@@ -79,7 +78,7 @@ fn stand(book: &[u8], looks: &mut [u64; 173])
 // All of it for a sound book.
 pub(crate) fn prepare(book: &[u8]) -> [u64; 173]
     requires { ⌜ Sound (now book) ⌝ }
-    ensures { λ r. ⌜ Prepared (now (book .entry)) r ⌝ }
+    ensures { λ r. ⌜ r ≡ looks-of (book-in (now (book .entry))) ⌝ }
 {
     let k = layout::kinds(book) as usize;
     let m = layout::bids(book) as usize;

@@ -1,8 +1,8 @@
--- `values::places::row` meets its contract. Assumes nothing.
+-- `lookups::places::row` meets its contract. Assumes nothing.
 use borrow.Author.Needs.{needs}
-use Rattle.values.proofs.Placing.{four-bytes}
-use Rattle.values.proofs.places.row.Statement.{statement}
-use Rattle.values.proofs.places.row.Tie as tie
+use Rattle.lookups.proofs.Placing.{four-bytes}
+use Rattle.lookups.proofs.places.row.Statement.{statement}
+use Rattle.lookups.proofs.places.row.Tie as tie
 
 returns : tie.Need-returns
 returns c = four-bytes _ _

@@ -1,4 +1,4 @@
--- A bid at its place in the bytes, and what a sound book gives of all its bids. Cited by the proofs of src/places.rt and src/lookups.rt.
+-- A bid at its place in the bytes, and what a sound book gives of all its bids. Cited by the proofs of src/, and of crates/values.
 -- Assumes nothing.
 use mathlib.Core.Path.{_≡_, sym, ap, ap₂, _∙_}
 use mathlib.Core.List.{List, [], _∷_}
@@ -12,12 +12,11 @@ use Rattle.book.specs.Book.{Bid, bid-at, client-of, no-bid}
 use Rattle.book.specs.Layout.{K-of, m-of, bids-from, bid-here, book-in}
 use Rattle.book.specs.Questions.{book-formula}
 use Rattle.book.specs.Sound.{Sound}
-use Rattle.book.proofs.Next.{bytes-length}
 use Rattle.book.proofs.Places.{bid-at-stands, bid-at-none, bids-count}
-use Rattle.lanes.specs.Lanes.{packed, Bytes}
+use Rattle.lanes.specs.Lanes.{packed}
 use Rattle.combinations.specs.Combinations.{market, amount-of}
 use Rattle.hours.proofs.Fours.{bytes-take}
-use Rattle.values.specs.Needs.{Placed, Owned, Asked}
+use Rattle.lookups.specs.Needs.{Placed, Owned}
 
 -- the bid that stands at a loop's place
 pub bid-here-at : (bs : List ℕ) (i k from at : ℕ) → k ≡ K-of bs → from ≡ bids-from bs → i < m-of bs → at ≡ from + i * (k + 5)
@@ -80,23 +79,15 @@ owned-sound bs s =
     }
 
 -- the four bytes read of a bid, packed
-pub asked-here : (bs : List ℕ) (k at i : ℕ) (row : List ℕ) (v : ℕ) → k ≤ 4 → bid-at (book-in bs) (i + 1) ≡ bid-here k at bs → row ≡ bytes-at 4 (at + 1) bs
-    → v ≡ packed (take k row) → Bytes (take k row) → Asked k (market (book-in bs) .hours (i + 1)) v
-unfolding market
-asked-here bs k at i row v l e er ev b =
-    let same : take k row ≡ bid-at (book-in bs) (i + 1) .hours
-    = ap (λ (xs : List ℕ). take k xs) er ∙ bytes-take k 4 (at + 1) bs l ∙ sym (hours-here bs k at i e) in
-    record { kinds = ap (λ (xs : List ℕ). length xs) (hours-here bs k at i e) ∙ bytes-length k (at + 1) bs; bytes = rw same at b; packs = ev ∙ ap packed same }
+pub packed-here : (bs : List ℕ) (k at i : ℕ) (row : List ℕ) (v : ℕ) → k ≤ 4 → bid-at (book-in bs) (i + 1) ≡ bid-here k at bs → row ≡ bytes-at 4 (at + 1) bs
+    → v ≡ packed (take k row) → v ≡ packed (bid-at (book-in bs) (i + 1) .hours)
+packed-here bs k at i row v l e er ev =
+    ev ∙ ap packed (ap (λ (xs : List ℕ). take k xs) er ∙ bytes-take k 4 (at + 1) bs l ∙ sym (hours-here bs k at i e))
 
--- whose the bid at a place is, and that it is one of the market's
+-- whose the bid at a place is
 pub owner-at : (bs : List ℕ) (k m from p at c : ℕ) → Placed bs k m from → Owned (market (book-in bs)) → p < m → at ≡ from + p * (k + 5) → c ≡ byte at bs
-    → (c ≡ market (book-in bs) .owner (p + 1)) × (1 ≤ c) × (c ≤ 6) × (p < market (book-in bs) .bids)
+    → (c ≡ client-of (book-in bs) (p + 1)) × (1 ≤ c) × (c ≤ 6)
 unfolding market
 owner-at bs k m from p at c h o l ea ec =
     let own : c ≡ client-of (book-in bs) (p + 1) = ec ∙ sym (owner-here bs k at p (bid-here-at bs p k from at (h .kinds) (h .place) (omega (arith, h .bids)) ea)) in
-    let inside : p < market (book-in bs) .bids = omega (arith, bids-count bs, h .bids) in
-    (own, omega (arith, o .low p inside), omega (arith, o .high p), inside)
-
-pub market-bids : (bs : List ℕ) (m : ℕ) → m ≡ m-of bs → m ≡ market (book-in bs) .bids
-unfolding market
-market-bids bs m e = e ∙ sym (bids-count bs)
+    (own, omega (arith, o .low p (omega (arith, bids-count bs, h .bids))), omega (arith, o .high p))

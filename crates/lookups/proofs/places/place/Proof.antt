@@ -1,10 +1,10 @@
--- `values::places::place` meets its contract. Assumes nothing.
+-- `lookups::places::place` meets its contract. Assumes nothing.
 use borrow.Author.Needs.{needs}
 use Prim.Native.Nat.{ℕ, _+_, _*_, _≤_}
 use native.Mathlib.Nat.{mul-le-mul-right}
 use native.Mathlib.Omega.{arith}
-use Rattle.values.proofs.places.place.Statement.{statement}
-use Rattle.values.proofs.places.place.Tie as tie
+use Rattle.lookups.proofs.places.place.Statement.{statement}
+use Rattle.lookups.proofs.places.place.Tie as tie
 
 near : (i k : ℕ) → i ≤ 48 → k ≤ 4 → i * (k + 5) ≤ 432
 near i k l h = omega (arith, mul-le-mul-right (k + 5) l)

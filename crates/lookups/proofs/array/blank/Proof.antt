@@ -1,0 +1,51 @@
+-- `lookups::array::blank` meets its contract. The loop keeps what the zeros still to be stored make of the array. Assumes nothing.
+use borrow.Author.Needs.{needs}
+use mathlib.Core.Path.{_≡_, refl, _∙_}
+use Prim.Native.Nat.{ℕ, _-_, _≤_, _+_}
+use native.Mathlib.Omega.{arith}
+use lib.ListN.{length, replicate, length-set, length-replicate}
+use Rattle.lookups.specs.Looks.{zeros, blank}
+use Rattle.lookups.proofs.Storing.{zeros-more}
+use Rattle.lookups.proofs.array.blank.Statement.{statement}
+use Rattle.lookups.proofs.array.blank.Tie as tie
+
+abbrev Inv-loop : tie.InvT-loop
+Inv-loop looks₀ t₀ looks t = (t ≤ 173) × (length looks ≡ 173) × (zeros (173 - t) t looks ≡ blank)
+
+abbrev μ-loop : tie.MeasureT-loop
+μ-loop looks₀ t₀ looks t = 173 - t
+
+loop-holds : tie.Need-loop-holds Inv-loop μ-loop
+unfolding blank
+loop-holds c = (search needs, length-set {A = ℕ} (replicate 173 48) 152 0 ∙ length-replicate {A = ℕ} 173 48, refl)
+
+loop-again : tie.Need-loop-again Inv-loop μ-loop
+loop-again c =
+    let l = c .before .loop in
+    let fewer : 173 - l .t - 1 ≡ 173 - (l .t + 1) = omega arith in (
+      search needs,
+      length-set (l .looks) (l .t) 0 ∙ l .inv .1,
+      rw fewer at (zeros-more (173 - l .t) (l .t) (l .looks) blank (omega (arith, c .loop-test .taken)) (l .inv .2)),
+    )
+
+returns : tie.Need-returns Inv-loop μ-loop
+unfolding zeros
+returns c =
+    let l = c .before .loop in
+    let z : 173 - l .t ≡ 0 = omega (arith, c .loop-test .left) in
+    rw z at (l .inv .2)
+
+pub blank-spec : {M : Type 1} → statement M
+blank-spec =
+    tie.close
+    (tie.spec
+    Inv-loop
+    μ-loop
+    (λ c. search needs)
+    loop-holds
+    (λ c. search needs)
+    (λ c. search needs)
+    (λ c. search needs)
+    (λ c. search needs)
+    loop-again
+    returns)

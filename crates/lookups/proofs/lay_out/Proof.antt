@@ -1,0 +1,39 @@
+-- `lookups::lay_out` meets its contract. Assumes nothing.
+use borrow.Author.Needs.{needs}
+use mathlib.Core.Path.{sym, ap, _∙_}
+use mathlib.Core.List.{List}
+use Prim.Native.Nat.{ℕ}
+use Rattle.book.proofs.Soundness.{sound}
+use Rattle.lanes.specs.Lanes.{guarded}
+use Rattle.combinations.proofs.Refusals.{refusal-none, refused-not-zero}
+use Rattle.lookups.proofs.lay_out.Statement.{statement}
+use Rattle.lookups.proofs.lay_out.Tie as tie
+
+returns : tie.Need-returns
+returns c =
+    let no = refused-not-zero _ _ (c .before .refusal .ensures) (c .if1 .taken) in
+    record { numbered = c .before .refusal .ensures; supplied = rw no; looked = rw no }
+
+prepare-requires : tie.Need-prepare-requires
+prepare-requires c κs = sound _ (refusal-none (c .before .before .before .refusal .ensures) (c .before .before .if1 .left))
+
+returns-2 : tie.Need-returns-2
+returns-2 c =
+    let yes = refusal-none (c .before .before .before .before .refusal .ensures) (c .before .before .before .if1 .left) in
+    record {
+      numbered = sym yes;
+      supplied = rw yes (c .before .guarded .ensures .0 ∙ ap (λ (ls : List ℕ). guarded 4 ls) (c .before .before .supply .ensures));
+      looked = rw yes (c .prepare .ensures);
+    }
+
+pub lay-out-spec : {M : Type 1} → statement M
+lay-out-spec =
+    tie.close
+    (tie.spec
+    (λ c κs. search needs)
+    (λ c. search needs)
+    returns
+    (λ c κs. search needs)
+    (λ c κs. search needs)
+    prepare-requires
+    returns-2)
