@@ -14,7 +14,7 @@ ghost use Rattle.lookups.specs.Needs.{Placed, Owned};
 ghost use Rattle.lookups.specs.Looks.{blank, laid, stood, looks-of};
 
 // No bid yet: every link leads to none, which is 48, and ceilings and largest weights are 0.
-fn blank() -> [u64; 173]
+pub(crate) fn blank() -> [u64; 173]
     ensures { λ r. ⌜ r ≡ blank ⌝ }
 {
     let mut looks = [48u64; 173];
@@ -30,12 +30,13 @@ fn blank() -> [u64; 173]
 // Each bid's weight, which is its amount, from place 48 on its hours in lanes, and from place 96 on the next bid of its client; from place
 // 144 on the first bid of each client, and from place 166 on its largest weight, both by the number of clients from it to the sixth. The
 // bids are passed from the last back.
-fn look_up(book: &[u8], k: usize, m: usize, from: usize) -> [u64; 173]
+fn look_up(book: &[u8], k: usize, m: usize, from: usize, looks: &mut [u64; 173])
     requires { ⌜ Placed (now book) k m from ⌝ }
     requires { ⌜ Owned (market (book-in (now book))) ⌝ }
-    ensures { λ r. ⌜ r ≡ laid (book-in (now (book .entry))) m blank ⌝ }
+    requires { ⌜ length (now looks) ≡ 173 ⌝ }
+    ensures { λ _. ⌜ now (looks .exit) ≡ laid (book-in (now (book .entry))) m (now (looks .entry)) ⌝ }
+    ensures { λ _. ⌜ length (now (looks .exit)) ≡ 173 ⌝ }
 {
-    let mut looks = blank();
     let mut i = m;
     while 0 < i {
         i = i - 1;
@@ -49,7 +50,6 @@ fn look_up(book: &[u8], k: usize, m: usize, from: usize) -> [u64; 173]
         looks[48 + i] = lanes::packed(k, places::row(book, at + 1));
         looks[166 + turn] = most;
     }
-    looks
 }
 
 // The first bid of a client that counts, and of one that does not none: 48.
@@ -76,14 +76,14 @@ fn stand(book: &[u8], looks: &mut [u64; 173])
 }
 
 // All of it for a sound book.
-pub(crate) fn prepare(book: &[u8]) -> [u64; 173]
+pub(crate) fn prepare(book: &[u8], looks: &mut [u64; 173])
     requires { ⌜ Sound (now book) ⌝ }
-    ensures { λ r. ⌜ r ≡ looks-of (book-in (now (book .entry))) ⌝ }
+    requires { ⌜ now looks ≡ blank ⌝ }
+    ensures { λ _. ⌜ now (looks .exit) ≡ looks-of (book-in (now (book .entry))) ⌝ }
 {
     let k = layout::kinds(book) as usize;
     let m = layout::bids(book) as usize;
     let from = layout::bids_place(book) as usize;
-    let mut looks = look_up(book, k, m, from);
-    stand(book, &mut looks);
-    looks
+    look_up(book, k, m, from, looks);
+    stand(book, looks);
 }

@@ -29,10 +29,12 @@ pub fn lay_out(book: &[u8]) -> Looks
         };
     }
     let left = lanes::guarded(hours::supply(book));
-    let looks = array::prepare(book);
-    Looks {
+    let looks = array::blank();
+    let mut made = Looks {
         number: 0,
         left,
         looks,
-    }
+    };
+    array::prepare(book, &mut made.looks);
+    made
 }

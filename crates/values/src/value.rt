@@ -39,13 +39,13 @@ fn value_by(book: &[u8], discard: u8, left: u64, looks: &mut [u64; 173]) -> u64
 pub fn value_of(book: &[u8], discard: u8) -> Value
     ensures { λ r. ⌜ Value-is (now (book .entry)) discard (r .number) (r .value) ⌝ }
 {
-    let made = lookups::lay_out(book);
+    let mut made = lookups::lay_out(book);
     let number = made.number;
     if 0 < number {
         return Value { number, value: 0 };
     }
-    let mut looks = made.looks;
-    let value = value_by(book, discard, made.left, &mut looks);
+    let left = made.left;
+    let value = value_by(book, discard, left, &mut made.looks);
     Value { number, value }
 }
 
@@ -76,7 +76,7 @@ fn each(
 pub fn values_of(book: &[u8], discards: [u8; 64], count: usize) -> Values
     ensures { λ r. ⌜ Values-are (now (book .entry)) discards count (r .number) (r .values) ⌝ }
 {
-    let made = lookups::lay_out(book);
+    let mut made = lookups::lay_out(book);
     let number = made.number;
     if 0 < number {
         return Values {
@@ -84,7 +84,7 @@ pub fn values_of(book: &[u8], discards: [u8; 64], count: usize) -> Values
             values: [0; 64],
         };
     }
-    let mut looks = made.looks;
-    let values = each(book, discards, count, made.left, &mut looks);
+    let left = made.left;
+    let values = each(book, discards, count, left, &mut made.looks);
     Values { number, values }
 }

@@ -15,14 +15,14 @@ returns c =
     record { numbered = c .before .refusal .ensures; supplied = rw no; looked = rw no }
 
 prepare-requires : tie.Need-prepare-requires
-prepare-requires c κs = sound _ (refusal-none (c .before .before .before .refusal .ensures) (c .before .before .if1 .left))
+prepare-requires c κs = (sound _ (refusal-none (c .before .before .before .before .before .refusal .ensures) (c .before .before .before .before .if1 .left)), c .before .blank .ensures)
 
 returns-2 : tie.Need-returns-2
 returns-2 c =
-    let yes = refusal-none (c .before .before .before .before .refusal .ensures) (c .before .before .before .if1 .left) in
+    let yes = refusal-none (c .before .before .before .before .before .before .refusal .ensures) (c .before .before .before .before .before .if1 .left) in
     record {
       numbered = sym yes;
-      supplied = rw yes (c .before .guarded .ensures .0 ∙ ap (λ (ls : List ℕ). guarded 4 ls) (c .before .before .supply .ensures));
+      supplied = rw yes (c .before .before .before .guarded .ensures .0 ∙ ap (λ (ls : List ℕ). guarded 4 ls) (c .before .before .before .before .supply .ensures));
       looked = rw yes (c .prepare .ensures);
     }
 
@@ -33,6 +33,7 @@ lay-out-spec =
     (λ c κs. search needs)
     (λ c. search needs)
     returns
+    (λ c κs. search needs)
     (λ c κs. search needs)
     (λ c κs. search needs)
     prepare-requires

@@ -1,26 +1,31 @@
 -- `lookups::array::prepare` meets its contract. Assumes nothing.
 use borrow.Author.Needs.{needs}
-use mathlib.Core.Path.{sym, ap, _∙_}
+use mathlib.Core.Path.{sym, ap, ap₂, _∙_}
 use mathlib.Core.List.{List}
 use Prim.Native.Nat.{ℕ}
+use lib.ListN.{length}
 use Rattle.book.specs.Layout.{book-in}
 use Rattle.book.proofs.Places.{bids-count}
-use Rattle.lookups.specs.Looks.{stood, looks-of, laid, blank}
+use Rattle.lookups.specs.Looks.{stood, looks-of, laid}
 use Rattle.lookups.proofs.Placing.{placed-sound, owned-sound}
+use Rattle.lookups.proofs.Storing.{blank-long}
 use Rattle.lookups.proofs.array.prepare.Statement.{statement}
 use Rattle.lookups.proofs.array.prepare.Tie as tie
 
 look-up-requires : tie.Need-look-up-requires
 look-up-requires c κs =
-    let sound = c .before .before .before .before .pre in
-    (placed-sound _ _ _ _ sound (c .before .before .kinds .ensures) (c .before .bids .ensures) (c .bids-place .ensures), owned-sound _ sound)
+    let p = c .before .before .before .before .before .pre in (
+      placed-sound _ _ _ _ (p .0) (c .before .before .before .kinds .ensures) (c .before .before .bids .ensures) (c .before .bids-place .ensures),
+      (owned-sound _ (p .0), ap length (p .1) ∙ blank-long),
+    )
 
 returns : tie.Need-returns
 unfolding looks-of
 returns c =
-    let bs = c .before .before .before .before .before .before .before .args .book .now in
-    let count = c .before .before .before .before .bids .ensures ∙ sym (bids-count bs) in
-    c .stand .ensures ∙ ap (λ (xs : List ℕ). stood (book-in bs) 7 0 xs) (c .before .before .look-up .ensures ∙ ap (λ (n : ℕ). laid (book-in bs) n blank) count)
+    let s = c .before .before .before .before .before .before .before .before in
+    let bs = s .args .book .now in
+    let count = c .before .before .before .before .before .bids .ensures ∙ sym (bids-count bs) in
+    c .stand .ensures ∙ ap (λ (xs : List ℕ). stood (book-in bs) 7 0 xs) (c .before .before .look-up .ensures .0 ∙ ap₂ (λ (n : ℕ) (xs : List ℕ). laid (book-in bs) n xs) count (s .pre .1))
 
 pub prepare-spec : {M : Type 1} → statement M
 prepare-spec =
@@ -33,5 +38,5 @@ prepare-spec =
     (λ c κs. search needs)
     (λ c. search needs)
     look-up-requires
-    (λ c κs. search needs)
+    (λ c κs. c .before .look-up .ensures .1)
     returns)
