@@ -4,6 +4,7 @@ mod books;
 mod branch;
 mod calls;
 mod certificate;
+mod copied;
 mod damage;
 mod growth;
 mod judge;

@@ -1,5 +1,5 @@
-//! The same search in Rust, with its bounds checks: links, ceilings, weights and hours once, then the clients left, from a floor. Hours of
-//! up to four kinds are one number, a lane of 16 bits for each; what is left has a guard bit above each lane's byte, which is gone from the
+//! The same search as one would write it in Rust, with its bounds checks: links, weights and hours once, then for each set its ceilings, and the
+//! clients left, from a floor. Hours of up to four kinds are one number, a lane of 16 bits for each; what is left has a guard bit above each lane's byte, which is gone from the
 //! difference where more is asked than is left.
 
 use crate::questions;
@@ -70,22 +70,28 @@ fn search(l: &Lookups, tops: &Tops, ahead: usize, left: u64, floor: u64) -> u64 
     search(l, tops, ahead - 1, left, top)
 }
 
-fn greatest_by(shape: &Shape, lookups: &Lookups, discard: u8) -> u64 {
+/// The hours for sale, guarded.
+fn for_sale(shape: &Shape) -> u64 {
+    in_lanes(&shape.supply()) + GUARDS
+}
+
+fn greatest_by(lookups: &Lookups, left: u64, discard: u8) -> u64 {
     let tops = ceilings(discard, &lookups.most);
-    search(lookups, &tops, 6, in_lanes(&shape.supply()) + GUARDS, 0)
+    search(lookups, &tops, 6, left, 0)
 }
 
 /// The greatest value with clients discarded.
 pub fn greatest(shape: &Shape, discard: u8) -> u64 {
-    greatest_by(shape, &look_up(shape), discard)
+    greatest_by(&look_up(shape), for_sale(shape), discard)
 }
 
 /// The greatest values with each of the sets of clients discarded, looked up once.
 pub fn greatest_of(shape: &Shape, discards: impl Iterator<Item = u8>) -> [u64; 64] {
     let lookups = look_up(shape);
+    let left = for_sale(shape);
     let mut values = [0; 64];
     for (value, discard) in values.iter_mut().zip(discards) {
-        *value = greatest_by(shape, &lookups, discard);
+        *value = greatest_by(&lookups, left, discard);
     }
     values
 }

@@ -3,7 +3,7 @@
 use crate::books::{Kind, KINDS};
 use crate::timing::{work, Rounds, Work};
 use crate::shape::Shape;
-use crate::{branch, plain, questions, search};
+use crate::{branch, copied, plain, questions, search};
 use std::hint::black_box;
 
 /// How many books of a kind a turn goes through: so many that a processor cannot learn their branches by heart.
@@ -29,6 +29,11 @@ fn searched(book: &[u8]) -> u64 {
 /// The same by the search in Rust, with questions 1 to 5 first.
 pub fn asked(book: &[u8]) -> u64 {
     questions::sound(black_box(book)).map_or(0, |shape| search::greatest_of(&shape, 0..64).iter().sum())
+}
+
+/// The same by our search put into Rust line by line, with questions 1 to 5 first.
+fn copied(book: &[u8]) -> u64 {
+    questions::sound(black_box(book)).map_or(0, |shape| copied::greatest_of(&shape, 0..64).iter().sum())
 }
 
 /// The same one by one, by the proved library and by the search in Rust, with the questions put at each call.
@@ -65,26 +70,26 @@ fn by_branch(book: &[u8]) -> u64 {
 }
 
 fn row(kind: &Kind) {
-    let ways = [ours, searched, asked, ours_one_by_one, asked_one_by_one];
+    let ways = [ours, searched, asked, copied, ours_one_by_one, asked_one_by_one];
     let slow = [ours, plainly, by_branch];
     let (many, few) = (kind.books(MANY), kind.books(FEW));
     assert_alike(kind.name, &many, &ways);
     assert_alike(kind.name, &few, &slow);
     let rounds_of_many = rounds(&many, &ways);
     let rounds_of_few = rounds(&few, &slow);
-    let [search, asked] = [1, 2].map(|other| rounds_of_many.ratio(0, other));
-    let one_by_one = rounds_of_many.ratio(3, 4);
+    let [search, asked, copied] = [1, 2, 3].map(|other| rounds_of_many.ratio(0, other));
+    let one_by_one = rounds_of_many.ratio(4, 5);
     let [plain, branch] = [1, 2].map(|other| rounds_of_few.ratio(0, other));
-    println!("{:22}{plain:>10.4}{branch:>18.2}{search:>10.2}{asked:>15.2}{one_by_one:>15.2}", kind.name);
+    println!("{:22}{plain:>10.4}{branch:>8.2}{search:>8.2}{asked:>8.2}{one_by_one:>12.2}{copied:>14.2}", kind.name);
 }
 
 pub fn table() {
     println!("All 64 greatest values of full books, a book at a call: our time over that in Rust of the plain recursion, of a branch");
-    println!("and bound, and of the same search without and with questions 1 to 5, which ours puts too. The last column is one");
-    println!("value at a call, with the questions put at each, over the same in Rust.");
+    println!("and bound, and of the same search without and with questions 1 to 5, which ours puts too; of one value at a call, with the");
+    println!("questions put at each, over the same in Rust; and of all 64 over our search put into Rust line by line, with the questions.");
     println!();
-    let [a, b, c, d, e] = ["plain", "branch and bound", "search", "search, asked", "one by one"];
-    println!("{:22}{a:>10}{b:>18}{c:>10}{d:>15}{e:>15}", "kind of book");
+    let [a, b, c, d, e, f] = ["plain", "branch", "search", "asked", "one by one", "line by line"];
+    println!("{:22}{a:>10}{b:>8}{c:>8}{d:>8}{e:>12}{f:>14}", "kind of book");
     for kind in KINDS {
         row(&kind);
     }

@@ -1,0 +1,87 @@
+//! Our search put into Rust line by line, with its bounds checks: one array with the same things at the same places, and the same recursion
+//! with the same four arguments.
+
+use crate::shape::Shape;
+
+const NONE: u64 = 48;
+const GUARDS: u64 = 0x0100_0100_0100_0100;
+
+/// What the search looks up. Clients are numbered by how many there are from each to the sixth: the turns left.
+type Looks = [u64; 173];
+
+/// Where in the array they stand: the weights of the bids from place 0 on, then their hours and links, then by turn first bids, ceilings,
+/// first bids of those that stay, and largest weights.
+const HOURS: usize = 48;
+const LINKS: usize = 96;
+const FIRST: usize = 144;
+const TOPS: usize = 152;
+const HEADS: usize = 159;
+const MOST: usize = 166;
+
+fn in_lanes(hours: &[u8]) -> u64 {
+    hours.iter().rev().fold(0, |lanes, &hours| lanes << 16 | u64::from(hours))
+}
+
+fn look_up(s: &Shape) -> Looks {
+    let mut looks = [NONE; 173];
+    looks[TOPS] = 0;
+    looks[MOST..].fill(0);
+    for i in (0..s.bids).rev() {
+        let at = s.place(i);
+        let turn = 7 - s.book[at] as usize;
+        looks[i] = u64::from(s.amount(at));
+        looks[HOURS + i] = in_lanes(s.hours(at));
+        looks[LINKS + i] = looks[FIRST + turn];
+        looks[FIRST + turn] = i as u64;
+        looks[MOST + turn] = looks[MOST + turn].max(looks[i]);
+    }
+    for (client, &status) in s.statuses().iter().enumerate() {
+        if status != 0 {
+            looks[FIRST + 6 - client] = NONE;
+            looks[MOST + 6 - client] = 0;
+        }
+    }
+    looks
+}
+
+/// By the clients left, the sum of the largest weights of those that stay, and their first bids.
+fn turn(discard: u8, looks: &mut Looks) {
+    let mut sum = 0;
+    for turn in 1..7 {
+        let stays = (discard >> (6 - turn)) & 1 == 0;
+        sum += if stays { looks[MOST + turn] } else { 0 };
+        looks[TOPS + turn] = sum;
+        looks[HEADS + turn] = if stays { looks[FIRST + turn] } else { NONE };
+    }
+}
+
+fn search(looks: &Looks, ahead: usize, left: u64, floor: u64) -> u64 {
+    if looks[TOPS + ahead] <= floor {
+        return floor;
+    }
+    let rest = looks[TOPS + ahead - 1];
+    let mut top = floor;
+    let mut i = looks[HEADS + ahead];
+    while i < NONE {
+        let bid = i as usize;
+        let weight = looks[bid];
+        let after = left - looks[HOURS + bid];
+        i = looks[LINKS + bid];
+        if top < weight + rest && after & GUARDS == GUARDS {
+            top = weight + search(looks, ahead - 1, after, top.saturating_sub(weight));
+        }
+    }
+    search(looks, ahead - 1, left, top)
+}
+
+/// The greatest values with each of the sets of clients discarded, looked up once.
+pub fn greatest_of(shape: &Shape, discards: impl Iterator<Item = u8>) -> [u64; 64] {
+    let mut looks = look_up(shape);
+    let left = in_lanes(&shape.supply()) + GUARDS;
+    let mut values = [0; 64];
+    for (value, discard) in values.iter_mut().zip(discards) {
+        turn(discard, &mut looks);
+        *value = search(&looks, 6, left, 0);
+    }
+    values
+}
