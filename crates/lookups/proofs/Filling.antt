@@ -21,7 +21,7 @@ Firsts m i xs = (c : ℕ) → 1 ≤ c → c ≤ 6 → Linked m c i (getD xs (144
 
 -- each of the bids from i on weighs at most its client's entry, which stands by the clients from it on
 abbrev pub Largest : Market → (i : ℕ) → List ℕ → Type 0
-Largest m i xs = (j : ℕ) → i ≤ j → j < m .bids → getD xs j 0 ≤ getD xs (166 + (7 - m .owner (j + 1))) 0
+Largest m i xs = (j : ℕ) → i ≤ j → j < m .bids → getD xs j 0 ≤ getD xs (159 + (7 - m .owner (j + 1))) 0
 
 module _ (m : Market) (o : Owned m) where
   linked-itself : (p c : ℕ) → m .owner (p + 1) ≡ c → Linked m c p p
@@ -43,7 +43,7 @@ module _ (m : Market) (o : Owned m) where
       rw (b .links (144 + (7 - c)) (omega arith)) (record { after = o .few; own = λ k. absurd (omega arith); none = λ t k n e. omega (arith, o .none t k) })
 
   -- one bid more, in front: bid p, of the client with t clients from it on
-  module _ (p t : ℕ) (l : p < m .bids) (et : t ≡ 7 - m .owner (p + 1)) (w v : ℕ) (xs : List ℕ) (long : length xs ≡ 173) where
+  module _ (p t : ℕ) (l : p < m .bids) (et : t ≡ 7 - m .owner (p + 1)) (w v : ℕ) (xs : List ℕ) (long : length xs ≡ 166) where
     few : p < 48
     few = omega (arith, o .few)
 
@@ -58,7 +58,7 @@ module _ (m : Market) (o : Owned m) where
     x = getD xs (144 + t) 0
 
     abbrev u : ℕ
-    u = max (getD xs (166 + t) 0) w
+    u = max (getD xs (159 + t) 0) w
 
     -- the link and the client's first bid are stored, and then all five
     abbrev linked-one : List ℕ
@@ -67,12 +67,12 @@ module _ (m : Market) (o : Owned m) where
     abbrev filled : List ℕ
     filled = stored p t w v xs
 
-    filled-long : length filled ≡ 173
+    filled-long : length filled ≡ 166
     filled-long = simp length-set long
 
-    other : (j : ℕ) → j ≢ p → j ≢ 48 + p → j ≢ 96 + p → j ≢ 144 + t → j ≢ 166 + t → getD filled j 0 ≡ getD xs j 0
+    other : (j : ℕ) → j ≢ p → j ≢ 48 + p → j ≢ 96 + p → j ≢ 144 + t → j ≢ 159 + t → getD filled j 0 ≡ getD xs j 0
     other j a b c d e =
-        getD-set-other (set (set linked-one p w) (48 + p) v) (166 + t) j u 0 e
+        getD-set-other (set (set linked-one p w) (48 + p) v) (159 + t) j u 0 e
         ∙ getD-set-other (set linked-one p w) (48 + p) j v 0 b
         ∙ getD-set-other linked-one p j w 0 a
         ∙ getD-set-other (set xs (96 + p) x) (144 + t) j p 0 d
@@ -81,21 +81,21 @@ module _ (m : Market) (o : Owned m) where
     at-weight : getD filled p 0 ≡ w
     at-weight =
         let inside = few in
-        getD-set-other (set (set linked-one p w) (48 + p) v) (166 + t) p u 0 (λ q. omega arith)
+        getD-set-other (set (set linked-one p w) (48 + p) v) (159 + t) p u 0 (λ q. omega arith)
         ∙ getD-set-other (set linked-one p w) (48 + p) p v 0 (λ q. omega arith)
         ∙ getD-set-same linked-one p w 0 (omega (arith, length-set (set xs (96 + p) x) (144 + t) p, length-set xs (96 + p) x))
 
     at-hours : getD filled (48 + p) 0 ≡ v
     at-hours =
         let inside = few in
-        getD-set-other (set (set linked-one p w) (48 + p) v) (166 + t) (48 + p) u 0 (λ q. omega arith)
+        getD-set-other (set (set linked-one p w) (48 + p) v) (159 + t) (48 + p) u 0 (λ q. omega arith)
         ∙ getD-set-same (set linked-one p w) (48 + p) v 0 (omega (arith, length-set linked-one p w, length-set (set xs (96 + p) x) (144 + t) p, length-set xs (96 + p) x))
 
     at-link : getD filled (96 + p) 0 ≡ x
     at-link =
         let inside = few in
         let (low, high) = near in
-        getD-set-other (set (set linked-one p w) (48 + p) v) (166 + t) (96 + p) u 0 (λ q. omega arith)
+        getD-set-other (set (set linked-one p w) (48 + p) v) (159 + t) (96 + p) u 0 (λ q. omega arith)
         ∙ getD-set-other (set linked-one p w) (48 + p) (96 + p) v 0 (λ q. omega arith)
         ∙ getD-set-other linked-one p (96 + p) w 0 (λ q. omega arith)
         ∙ getD-set-other (set xs (96 + p) x) (144 + t) (96 + p) p 0 (λ q. omega arith)
@@ -105,15 +105,15 @@ module _ (m : Market) (o : Owned m) where
     at-first =
         let inside = few in
         let (low, high) = near in
-        getD-set-other (set (set linked-one p w) (48 + p) v) (166 + t) (144 + t) u 0 (λ q. omega arith)
+        getD-set-other (set (set linked-one p w) (48 + p) v) (159 + t) (144 + t) u 0 (λ q. omega arith)
         ∙ getD-set-other (set linked-one p w) (48 + p) (144 + t) v 0 (λ q. omega arith)
         ∙ getD-set-other linked-one p (144 + t) w 0 (λ q. omega arith)
         ∙ getD-set-same (set xs (96 + p) x) (144 + t) p 0 (omega (arith, length-set xs (96 + p) x))
 
-    at-most : getD filled (166 + t) 0 ≡ u
+    at-most : getD filled (159 + t) 0 ≡ u
     at-most =
         let (low, high) = near in
-        getD-set-same (set (set linked-one p w) (48 + p) v) (166 + t) u 0
+        getD-set-same (set (set linked-one p w) (48 + p) v) (159 + t) u 0
         (omega (arith, length-set (set linked-one p w) (48 + p) v, length-set linked-one p w, length-set (set xs (96 + p) x) (144 + t) p, length-set xs (96 + p) x))
 
     -- the first bid of the client from p + 1 on
@@ -181,10 +181,10 @@ module _ (m : Market) (o : Owned m) where
         let (low, high) = near in
         let most = o .few in
         let at : 7 - m .owner (j + 1) ≤ 6 = omega (arith, o .low j b) in
-        let grown : getD xs (166 + (7 - m .owner (j + 1))) 0 ≤ getD filled (166 + (7 - m .owner (j + 1))) 0
+        let grown : getD xs (159 + (7 - m .owner (j + 1))) 0 ≤ getD filled (159 + (7 - m .owner (j + 1))) 0
         = elim (ℕ-discrete (7 - m .owner (j + 1)) t) [
           | yes e ↦ rw (e, at-most) (omega arith)
-          | no n ↦ omega (arith, other (166 + (7 - m .owner (j + 1))) (λ q. omega arith) (λ q. omega arith) (λ q. omega arith) (λ q. omega arith) (λ q. n (omega arith)))
+          | no n ↦ omega (arith, other (159 + (7 - m .owner (j + 1))) (λ q. omega arith) (λ q. omega arith) (λ q. omega arith) (λ q. omega arith) (λ q. n (omega arith)))
         ] in
         elim (ℕ-discrete j p) [
           | yes e ↦ rw (e, at-weight, ← et, at-most) (omega arith)
@@ -199,7 +199,7 @@ module _ (m : Market) (o : Owned m) where
           long = filled-long;
           few = λ j b. elim (ℕ-discrete j t) [
             | yes e ↦ rw (e, at-most) (omega (arith, s .few t high))
-            | no n ↦ rw (other (166 + j) (λ q. omega arith) (λ q. omega arith) (λ q. omega arith) (λ q. omega arith) (λ q. n (omega arith))) (s .few j b)
+            | no n ↦ rw (other (159 + j) (λ q. omega arith) (λ q. omega arith) (λ q. omega arith) (λ q. omega arith) (λ q. n (omega arith))) (s .few j b)
           ];
           bottom = other 152 (λ q. omega arith) (λ q. omega arith) (λ q. omega arith) (λ q. omega arith) (λ q. omega arith) ∙ s .bottom;
         }
@@ -212,4 +212,4 @@ ready-none xs b = record {
 }
 
 pub summable-none : (xs : List ℕ) → Blank xs → Summable xs
-summable-none xs b = record { long = b .long; few = λ t l. omega (arith, b .most (166 + t) (omega arith)); bottom = b .bottom }
+summable-none xs b = record { long = b .long; few = λ t l. omega (arith, b .most (159 + t) (omega arith)); bottom = b .bottom }

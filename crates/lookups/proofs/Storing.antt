@@ -39,44 +39,44 @@ zeros-there (suc n) p j xs l k h = elim (ℕ-discrete j p) [
 
 -- no bid yet: links lead to none, and the lowest ceiling and the largest weights are 0
 pub record Blank (xs : List ℕ) : Type 0 where
-  pub long : length xs ≡ 173
+  pub long : length xs ≡ 166
   pub links : (j : ℕ) → j < 152 → getD xs j 0 ≡ 48
   pub bottom : getD xs 152 0 ≡ 0
-  pub most : (j : ℕ) → 166 ≤ j → getD xs j 0 ≡ 0
+  pub most : (j : ℕ) → 159 ≤ j → getD xs j 0 ≡ 0
 
 -- all entries are 48, and the lowest ceiling is 0
 abbrev first : List ℕ
-first = set (replicate 173 48) 152 0
+first = set (replicate 166 48) 152 0
 
-first-long : length first ≡ 173
-first-long = length-set {A = ℕ} (replicate 173 48) 152 0 ∙ length-replicate {A = ℕ} 173 48
+first-long : length first ≡ 166
+first-long = length-set {A = ℕ} (replicate 166 48) 152 0 ∙ length-replicate {A = ℕ} 166 48
 
-pub blank-long : length blank ≡ 173
+pub blank-long : length blank ≡ 166
 unfolding blank
-blank-long = zeros-long 7 166 first ∙ first-long
+blank-long = zeros-long 7 159 first ∙ first-long
 
 pub blank-is : Blank blank
 unfolding blank
 blank-is = record {
   long = blank-long;
-  links = λ j l. zeros-below 7 166 j first (omega arith) ∙ getD-set-other {A = ℕ} (replicate 173 48) 152 j 0 0 (λ q. omega arith) ∙ getD-replicate {A = ℕ} 173 j 48 0 (omega arith);
-  bottom = zeros-below 7 166 152 first (omega arith) ∙ getD-set-same {A = ℕ} (replicate 173 48) 152 0 0 (omega (arith, length-replicate {A = ℕ} 173 48));
-  most = λ j l. elim (decLt j 173) [
-    | yes k ↦ zeros-there 7 166 j first l (omega arith) (omega (arith, first-long))
+  links = λ j l. zeros-below 7 159 j first (omega arith) ∙ getD-set-other {A = ℕ} (replicate 166 48) 152 j 0 0 (λ q. omega arith) ∙ getD-replicate {A = ℕ} 166 j 48 0 (omega arith);
+  bottom = zeros-below 7 159 152 first (omega arith) ∙ getD-set-same {A = ℕ} (replicate 166 48) 152 0 0 (omega (arith, length-replicate {A = ℕ} 166 48));
+  most = λ j l. elim (decLt j 166) [
+    | yes k ↦ zeros-there 7 159 j first l (omega arith) (omega (arith, first-long))
     | no k ↦ List·getD-eq-default blank 0 (omega (arith, blank-long))
   ];
 }
 
 -- one bid more, in front
 pub laid-more : (b : Book) (i t w v u : ℕ) (xs zs : List ℕ) → 0 < i → t ≡ 7 - client-of b (i - 1 + 1) → w ≡ amount-of b (i - 1 + 1)
-    → v ≡ packed (bid-at b (i - 1 + 1) .hours) → u ≡ max (getD xs (166 + t) 0) w → laid b i xs ≡ zs
-    → laid b (i - 1) (set (set (set (set (set xs (96 + (i - 1)) (getD xs (144 + t) 0)) (144 + t) (i - 1)) (i - 1) w) (48 + (i - 1)) v) (166 + t) u) ≡ zs
+    → v ≡ packed (bid-at b (i - 1 + 1) .hours) → u ≡ max (getD xs (159 + t) 0) w → laid b i xs ≡ zs
+    → laid b (i - 1) (set (set (set (set (set xs (96 + (i - 1)) (getD xs (144 + t) 0)) (144 + t) (i - 1)) (i - 1) w) (48 + (i - 1)) v) (159 + t) u) ≡ zs
 unfolding laid place-bid
 laid-more b zero t w v u xs zs l et ew ev eu e = absurd (omega arith)
 laid-more b (suc i) t w v u xs zs l et ew ev eu e = let back : suc i - 1 ≡ i = omega arith in rw (eu, ev, ew, et, back) e
 
 -- one client more
 pub stood-more : (b : Book) (t f w : ℕ) (on : Bool) (xs zs : List ℕ) → t < 7 → on ≡ standing b (7 - t) → f ≡ cond on (getD xs (144 + t) 0) 48
-    → w ≡ cond on (getD xs (166 + t) 0) 0 → stood b (7 - t) t xs ≡ zs → stood b (7 - (t + 1)) (t + 1) (set (set xs (144 + t) f) (166 + t) w) ≡ zs
+    → w ≡ cond on (getD xs (159 + t) 0) 0 → stood b (7 - t) t xs ≡ zs → stood b (7 - (t + 1)) (t + 1) (set (set xs (144 + t) f) (159 + t) w) ≡ zs
 unfolding stood
 stood-more b t f w on xs zs l eo ef ew e = let back : 7 - t ≡ suc (7 - (t + 1)) = omega arith in rw (ew, ef, eo) (rw back at e)

@@ -20,11 +20,11 @@ zeros (suc n) p xs = zeros n (p + 1) (set xs p 0)
 
 -- no bid yet: 48, which is none, but 0 for the lowest ceiling and for the largest weights
 unfoldable pub blank : List ℕ
-blank = zeros 7 166 (set (replicate 173 48) 152 0)
+blank = zeros 7 159 (set (replicate 166 48) 152 0)
 
 -- bid i at turn t: its link, its client's first bid, its weight, its hours, and its client's largest weight
 abbrev pub stored : (i t weight hours : ℕ) → List ℕ → List ℕ
-stored i t w h xs = set (set (set (set (set xs (96 + i) (getD xs (144 + t) 0)) (144 + t) i) i w) (48 + i) h) (166 + t) (max (getD xs (166 + t) 0) w)
+stored i t w h xs = set (set (set (set (set xs (96 + i) (getD xs (144 + t) 0)) (144 + t) i) i w) (48 + i) h) (159 + t) (max (getD xs (159 + t) 0) w)
 
 -- the same of a book's bid; bids are counted from 0 here
 unfoldable pub place-bid : Book → (i : ℕ) → List ℕ → List ℕ
@@ -37,7 +37,7 @@ laid b (suc i) xs = laid b i (place-bid b i xs)
 
 -- the client at turn t keeps its first bid and its largest weight if it is `on`
 abbrev pub settled : (on : Bool) → (t : ℕ) → List ℕ → List ℕ
-settled on t xs = set (set xs (144 + t) (cond on (getD xs (144 + t) 0) 48)) (166 + t) (cond on (getD xs (166 + t) 0) 0)
+settled on t xs = set (set xs (144 + t) (cond on (getD xs (144 + t) 0) 48)) (159 + t) (cond on (getD xs (159 + t) 0) 0)
 
 -- n clients from turn t on keep theirs if they stand
 unfoldable pub stood : Book → (n t : ℕ) → List ℕ → List ℕ
@@ -52,4 +52,4 @@ looks-of b = stood b 7 0 (laid b (length (b .bids)) blank)
 pub record Looks-are (bs : List ℕ) (number left : ℕ) (looks : List ℕ) : Type 0 where
   pub numbered : number ≡ book-refusal bs
   pub supplied : left ≡ cond (eqb (book-refusal bs) 0) (guarded 4 (four (supplies (book-in bs)))) 0
-  pub looked : looks ≡ cond (eqb (book-refusal bs) 0) (looks-of (book-in bs)) (replicate 173 0)
+  pub looked : looks ≡ cond (eqb (book-refusal bs) 0) (looks-of (book-in bs)) (replicate 166 0)

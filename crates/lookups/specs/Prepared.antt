@@ -1,6 +1,6 @@
 -- What holds of the array that the search looks up: it lays out the book's market. Its bids are counted from 0: their weights, and from places
 -- 48 and 96 on their hours and links; from place 144 on each client's first bid, by the number of clients from it on to the sixth, and from
--- place 166 on its largest weight. Cited by the contracts of crates/values; proved in proofs/Preparing.antt. Assumes nothing: these are
+-- place 159 on its largest weight. Cited by the contracts of crates/values; proved in proofs/Preparing.antt. Assumes nothing: these are
 -- definitions.
 use mathlib.Core.Path.{_≡_}
 use mathlib.Core.List.{List}
@@ -38,8 +38,8 @@ pub record Laid (m : Market) (wt : ℕ → ℕ) (k i : ℕ) (xs : List ℕ) : Ty
 
 -- no largest weight is too large to be added up, and the lowest ceiling is 0
 pub record Summable (xs : List ℕ) : Type 0 where
-  pub long : length xs ≡ 173
-  pub few : (t : ℕ) → t ≤ 6 → getD xs (166 + t) 0 ≤ 4294967295
+  pub long : length xs ≡ 166
+  pub few : (t : ℕ) → t ≤ 6 → getD xs (159 + t) 0 ≤ 4294967295
   pub bottom : getD xs 152 0 ≡ 0
 
 -- the numbers in the array are few enough to be added up, and links lead on
@@ -52,7 +52,7 @@ pub record Ready (xs : List ℕ) : Type 0 where
 pub record Standing (b : Book) (xs : List ℕ) : Type 0 where
   pub first : (c : ℕ) → 1 ≤ c → c ≤ 6 → standing b c ≡ true → Linked (market b) c 0 (getD xs (144 + (7 - c)) 0)
   pub gone : (c : ℕ) → 1 ≤ c → c ≤ 6 → standing b c ≡ false → getD xs (144 + (7 - c)) 0 ≡ 48
-  pub covers : (j : ℕ) → j < market b .bids → standing b (client-of b (j + 1)) ≡ true → getD xs j 0 ≤ getD xs (166 + (7 - client-of b (j + 1))) 0
+  pub covers : (j : ℕ) → j < market b .bids → standing b (client-of b (j + 1)) ≡ true → getD xs j 0 ≤ getD xs (159 + (7 - client-of b (j + 1))) 0
 
 -- the array of the book's bids
 pub record Prepared (bs xs : List ℕ) : Type 0 where

@@ -14,13 +14,13 @@ ghost use Rattle.lookups.specs.Needs.{Placed, Owned};
 ghost use Rattle.lookups.specs.Looks.{blank, laid, stood, looks-of};
 
 // No bid yet: every link leads to none, which is 48, and ceilings and largest weights are 0.
-pub(crate) fn blank() -> [u64; 173]
+pub(crate) fn blank() -> [u64; 166]
     ensures { λ r. ⌜ r ≡ blank ⌝ }
 {
-    let mut looks = [48u64; 173];
+    let mut looks = [48u64; 166];
     looks[152] = 0;
-    let mut t: usize = 166;
-    while t < 173 {
+    let mut t: usize = 159;
+    while t < 166 {
         looks[t] = 0;
         t += 1;
     }
@@ -28,14 +28,14 @@ pub(crate) fn blank() -> [u64; 173]
 }
 
 // Each bid's weight, which is its amount, from place 48 on its hours in lanes, and from place 96 on the next bid of its client; from place
-// 144 on the first bid of each client, and from place 166 on its largest weight, both by the number of clients from it to the sixth. The
+// 144 on the first bid of each client, and from place 159 on its largest weight, both by the number of clients from it to the sixth. The
 // bids are passed from the last back.
-fn look_up(book: &[u8], k: usize, m: usize, from: usize, looks: &mut [u64; 173])
+fn look_up(book: &[u8], k: usize, m: usize, from: usize, looks: &mut [u64; 166])
     requires { ⌜ Placed (now book) k m from ⌝ }
     requires { ⌜ Owned (market (book-in (now book))) ⌝ }
-    requires { ⌜ length (now looks) ≡ 173 ⌝ }
+    requires { ⌜ length (now looks) ≡ 166 ⌝ }
     ensures { λ _. ⌜ now (looks .exit) ≡ laid (book-in (now (book .entry))) m (now (looks .entry)) ⌝ }
-    ensures { λ _. ⌜ length (now (looks .exit)) ≡ 173 ⌝ }
+    ensures { λ _. ⌜ length (now (looks .exit)) ≡ 166 ⌝ }
 {
     let mut i = m;
     while 0 < i {
@@ -43,12 +43,12 @@ fn look_up(book: &[u8], k: usize, m: usize, from: usize, looks: &mut [u64; 173])
         let at = places::place(k, from, i);
         let turn = 7 - places::owner(book, at) as usize;
         let weight = bytes::u32_at(book, at + (k + 1)) as u64;
-        let most = numbers::larger(looks[166 + turn], weight);
+        let most = numbers::larger(looks[159 + turn], weight);
         looks[96 + i] = looks[144 + turn];
         looks[144 + turn] = i as u64;
         looks[i] = weight;
         looks[48 + i] = lanes::packed(k, places::row(book, at + 1));
-        looks[166 + turn] = most;
+        looks[159 + turn] = most;
     }
 }
 
@@ -60,23 +60,23 @@ pub fn first_own(on: bool, first: u64) -> u64
 }
 
 // Clients that do not stand have no first bid, and no largest weight.
-fn stand(book: &[u8], looks: &mut [u64; 173])
-    requires { ⌜ length (now looks) ≡ 173 ⌝ }
+fn stand(book: &[u8], looks: &mut [u64; 166])
+    requires { ⌜ length (now looks) ≡ 166 ⌝ }
     ensures { λ _. ⌜ now (looks .exit) ≡ stood (book-in (now (book .entry))) 7 0 (now (looks .entry)) ⌝ }
 {
     let mut t: usize = 0;
     while t < 7 {
         let on = entries::is_standing(book, 7 - t);
         let first = first_own(on, looks[144 + t]);
-        let most = numbers::share(on, looks[166 + t]);
+        let most = numbers::share(on, looks[159 + t]);
         looks[144 + t] = first;
-        looks[166 + t] = most;
+        looks[159 + t] = most;
         t += 1;
     }
 }
 
 // All of it for a sound book.
-pub(crate) fn prepare(book: &[u8], looks: &mut [u64; 173])
+pub(crate) fn prepare(book: &[u8], looks: &mut [u64; 166])
     requires { ⌜ Sound (now book) ⌝ }
     requires { ⌜ now looks ≡ blank ⌝ }
     ensures { λ _. ⌜ now (looks .exit) ≡ looks-of (book-in (now (book .entry))) ⌝ }

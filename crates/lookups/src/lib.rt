@@ -13,7 +13,7 @@ ghost use Rattle.lookups.specs.Looks.{Looks-are};
 pub struct Looks {
     pub number: u32,
     pub left: u64,
-    pub looks: [u64; 173],
+    pub looks: [u64; 166],
 }
 
 // Questions 1 to 5, and then all of it.
@@ -25,7 +25,7 @@ pub fn lay_out(book: &[u8]) -> Looks
         return Looks {
             number: refused as u32,
             left: 0,
-            looks: [0; 173],
+            looks: [0; 166],
         };
     }
     let left = lanes::guarded(hours::supply(book));

@@ -1,17 +1,18 @@
 -- What the search finds in a sound book: the array lays out the market without the clients that are discarded, and the search from floor 0
 -- over all clients gives the greatest value, at most 6,000,000. Cited by the proofs of src/tops.rt and src/value.rt.
 -- Assumes nothing.
-use mathlib.Core.Path.{_≡_, refl, ap, _∙_}
-use mathlib.Core.Bool.{Bool, true, false, _&&_, not, cond, and-false}
+use mathlib.Core.Path.{_≡_, refl, sym, ap, _∙_}
+use mathlib.Core.Bool.{Bool, true, false, _&&_, not, cond, and-false, true≢false}
 use mathlib.Core.List.{List}
 use mathlib.Core.Logic.{⊎-elim, inl, inr}
-use Prim.Native.Nat.{ℕ, zero, suc, _+_, _*_, _-_, _/_, _^_, _≤_, max}
+use Prim.Native.Nat.{ℕ, zero, suc, _+_, _*_, _-_, _/_, _^_, _≤_, _<_, max}
 use native.Mathlib.Nat.{zero-max}
 use native.Mathlib.Numerals.{add-one}
 use native.Mathlib.Decide.{decLt}
 use native.Mathlib.Omega.{arith}
 use lib.Bits.{bitAnd}
-use lib.Dec.{eqb}
+use borrow.Author.Tests.{ltb-true, ltb-false}
+use lib.Dec.{eqb, ltb}
 use lib.ListN.{length, getD, List·getD-eq-default}
 use Rattle.sets.specs.Sets.{has}
 use Rattle.sets.proofs.Members.{and-mask}
@@ -37,7 +38,8 @@ use Rattle.lookups.specs.Needs.{Owned}
 use Rattle.lookups.specs.Prepared.{Links, Laid, Standing, Prepared}
 use Rattle.lookups.proofs.Placing.{owned-sound}
 use Rattle.lookups.proofs.Preparing.{looks-prepared}
-use Rattle.values.specs.Needs.{Left, Turned, Ceiling, Head, Looked, Turn, weight-in}
+use Rattle.values.specs.Needs.{Left, Turned, Ceiling, Head, begins, Looked, Turn, weight-in}
+use Rattle.values.proofs.Ceilings.{owned-inside}
 
 -- the test by shift and mask
 discarded-bit : (d c : ℕ) → 1 ≤ c → discarded d c ≡ eqb (bitAnd (d / 2 ^ (c - 1)) 1) 1
@@ -100,9 +102,9 @@ module _ (d : ℕ) (xs ys : List ℕ) where
         stands = record {
           first = λ c l k y. rw (t .kept (144 + (7 - c)) (inl (omega arith))) (g .first c l k y);
           gone = λ c l k n. t .kept (144 + (7 - c)) (inl (omega arith)) ∙ g .gone c l k n;
-          covers = λ j l y. omega (arith, t .kept j (inl (omega (arith, o .few))), t .kept (166 + (7 - client-of (book-in bs) (j + 1))) (inr (omega arith)), g .covers j l y);
+          covers = λ j l y. omega (arith, t .kept j (inl (omega (arith, o .few))), t .kept (159 + (7 - client-of (book-in bs) (j + 1))) (inr (omega arith)), g .covers j l y);
         };
-        summable = record { long = t .long; few = λ i l. rw (t .kept (166 + i) (inr (omega arith))) (p .summable .few i l); bottom = t .kept 152 (inl (omega arith)) ∙ p .summable .bottom };
+        summable = record { long = t .long; few = λ i l. rw (t .kept (159 + i) (inr (omega arith))) (p .summable .few i l); bottom = t .kept 152 (inl (omega arith)) ∙ p .summable .bottom };
       }
 
   -- the search may begin
@@ -136,33 +138,57 @@ module _ (b : Book) (d : ℕ) where
           let back : 7 - (7 - client-of b (i + 1)) ≡ client-of b (i + 1) = omega (arith, o .high i) in
           let (stands, stays) = and-parts (standing b (client-of b (i + 1))) _ y in
           let grown = rw here at (t .topped .grows (6 - client-of b (i + 1)) (omega (arith, o .low i l)) (rw (here, back) stays)) in
-          omega (arith, s .covers i l stands, t .kept i (inl (omega (arith, o .few))), t .kept (166 + (7 - client-of b (i + 1))) (inr (omega arith)), grown);
+          omega (arith, s .covers i l stands, t .kept i (inl (omega (arith, o .few))), t .kept (159 + (7 - client-of b (i + 1))) (inr (omega arith)), grown);
     }
 
-    -- the first bids are those of clients whose bids may be taken
-    head-here : (c : ℕ) → 1 ≤ c → c ≤ 6 → getD ys (159 + (7 - c)) 0 ≡ cond (not (discarded d c)) (getD xs (144 + (7 - c)) 0) 48
-    head-here c l k =
-        let back : 7 - (7 - c) ≡ c = omega arith in
-        rw back at (t .headed (7 - c) (omega arith) (omega arith))
-        ∙ ap (λ (x : ℕ). cond (not (discarded d c)) x 48) (t .kept (144 + (7 - c)) (inl (omega arith)))
+    -- the search begins with a client whose bids may be taken, and with no other
+    module _ (some : (i : ℕ) → i < market b .bids → 1 ≤ getD xs i 0) (c : ℕ) (l : 1 ≤ c) (k : c ≤ 6) where
+      abbrev above : Bool
+      above = ltb (getD ys (152 + (6 - c)) 0) (getD ys (152 + (7 - c)) 0)
 
-    head-without : (c : ℕ) → 1 ≤ c → c ≤ 6 → Head (without b (discarded d)) c (getD ys (159 + (7 - c)) 0)
-    unfolding without market
-    head-without c l k = ⊎-elim (λ (y : standing b c ≡ true). ⊎-elim
-        (λ (z : discarded d c ≡ true). shut (rw z at (head-here c l k)) (λ i e. rw (e, z) (and-false (standing b c))))
-        (λ (z : discarded d c ≡ false). let first = s .first c l k y in
-        rw (rw z at (head-here c l k)) (record { able = λ _ i e. rw (e, y, z); own = first .own; none = λ i a e. absurd (first .none i (omega arith) a e) }))
-        (either (discarded d c)))
-        (λ (n : standing b c ≡ false). shut (head-here c l k ∙ none (not (discarded d c)) (s .gone c l k n)) (λ i e. rw (e, n)))
-        (either (standing b c))
-      where
-        none : (x : Bool) → getD xs (144 + (7 - c)) 0 ≡ 48 → cond x (getD xs (144 + (7 - c)) 0) 48 ≡ 48
-        none true e = e
-        none false e = refl
+      -- a client that is discarded has no ceiling of its own
+      level : discarded d c ≡ true → above ≡ false
+      level z =
+          let here : 6 - c + 1 ≡ 7 - c = omega arith in
+          let back : 7 - (7 - c) ≡ c = omega arith in
+          ⊎-elim
+          (λ (y : above ≡ true). let stays = rw (here, back, z) at (t .topped .only (6 - c) (omega arith) (rw here (ltb-true (getD ys (152 + (6 - c)) 0) (getD ys (152 + (7 - c)) 0) y))) in absurd (true≢false (sym stays)))
+          (λ (n : above ≡ false). n)
+          (either above)
 
-        shut : getD ys (159 + (7 - c)) 0 ≡ 48 → ((i : ℕ) → client-of b (i + 1) ≡ c → (standing b (client-of b (i + 1)) && not (discarded d (client-of b (i + 1)))) ≡ false)
-            → Head (without b (discarded d)) c (getD ys (159 + (7 - c)) 0)
-        shut e f = rw e (record { able = λ j. absurd (omega arith); own = λ j. absurd (omega arith); none = λ i _ q. f i q })
+      -- one that stays and has bids has
+      raised : discarded d c ≡ false → standing b c ≡ true → above ≡ false → (i : ℕ) → client-of b (i + 1) ≡ c → ⊥
+      unfolding market
+      raised z y n i e =
+          let here : 6 - c + 1 ≡ 7 - c = omega arith in
+          let back : 7 - (7 - c) ≡ c = omega arith in
+          let inside = owned-inside (market b) c i o l e in
+          let grown = rw here at (t .topped .grows (6 - c) (omega arith) (rw (here, back, z))) in
+          let weighs = rw e at (s .covers i inside (rw e y)) in
+          omega (arith, some i inside, weighs, t .kept (159 + (7 - c)) (inr (omega arith)), grown, ltb-false (getD ys (152 + (6 - c)) 0) (getD ys (152 + (7 - c)) 0) n)
+
+      first-same : getD ys (144 + (7 - c)) 0 ≡ getD xs (144 + (7 - c)) 0
+      first-same = t .kept (144 + (7 - c)) (inl (omega arith))
+
+      head-without : Head (without b (discarded d)) c (begins ys c)
+      unfolding without market
+      head-without = ⊎-elim (λ (y : standing b c ≡ true). ⊎-elim
+          (λ (z : discarded d c ≡ true). rw (level z) (shut (λ i e. rw (e, z) (and-false (standing b c)))))
+          (λ (z : discarded d c ≡ false). ⊎-elim
+          (λ (r : above ≡ true). let first = s .first c l k y in
+          rw (r, first-same) (record { able = λ _ i e. rw (e, y, z); own = first .own; none = λ i a e. absurd (first .none i (omega arith) a e) }))
+          (λ (r : above ≡ false). rw r (shut (λ i e. absurd (raised z y r i e))))
+          (either above))
+          (either (discarded d c)))
+          (λ (n : standing b c ≡ false). rw (none n above) (shut (λ i e. rw (e, n))))
+          (either (standing b c))
+        where
+          none : standing b c ≡ false → (x : Bool) → cond x (getD ys (144 + (7 - c)) 0) 48 ≡ 48
+          none n true = first-same ∙ s .gone c l k n
+          none n false = refl
+
+          shut : ((i : ℕ) → client-of b (i + 1) ≡ c → (standing b (client-of b (i + 1)) && not (discarded d (client-of b (i + 1)))) ≡ false) → Head (without b (discarded d)) c 48
+          shut f = record { able = λ j. absurd (omega arith); own = λ j. absurd (omega arith); none = λ i _ q. f i q }
 
 -- all that the search looks up, of the market without the clients that are discarded
 pub looked-sound : (bs xs ys : List ℕ) (d : ℕ) → Sound bs → Prepared bs xs → Turned d xs ys → Looked (without (book-in bs) (discarded d)) (K-of bs) ys
@@ -175,7 +201,7 @@ looked-sound bs xs ys d s p t =
       asked = λ i l. laid .asked i (omega arith) l;
       linked = links-without (book-in bs) d ys (laid .linked);
       ceiling = ceiling-without (book-in bs) d xs ys o (p .stands) t;
-      headed = head-without (book-in bs) d xs ys o (p .stands) t;
+      headed = head-without (book-in bs) d xs ys o (p .stands) t (λ i l. omega (arith, p .laid .weighed i (omega arith) l, s .amount-low (i + 1) (omega arith) (omega (arith, bids-count bs))));
     }
 
 -- the search from floor 0 over six clients

@@ -30,19 +30,20 @@ fn may_raise(after: u64, top: u64, most: u64) -> bool
 
 // The larger of the floor and of the greatest value of the last clients (`ahead` of them) with the hours left, in whatever market the
 // array lays out. The ceilings are by the clients left, and where none is left it is 0.
-pub(crate) fn search_from(ahead: usize, left: u64, floor: u64, looks: &[u64; 173]) -> u64
+pub(crate) fn search_from(ahead: usize, left: u64, floor: u64, looks: &[u64; 166]) -> u64
     requires { ⌜ Ready (now looks) ⌝ }
     requires { ⌜ Turn ahead left floor (now looks) ⌝ }
     ensures { λ r. ⌜ r ≤ max floor (ahead * 4294967295) ⌝ }
     ensures { λ r. ⌜ ((m : Market) (k : ℕ) (hours : List ℕ) → Looked m k (now (looks .entry)) → Left k hours left → r ≡ max floor (best m (weight-in (now (looks .entry))) ahead (7 - ahead) hours)) ⌝ }
 {
-    if looks[152 + ahead] <= floor {
+    let most = looks[152 + ahead];
+    if most <= floor {
         return floor;
     }
     let fewer = ahead - 1;
     let rest = looks[152 + fewer];
     let mut top = floor;
-    let mut i = looks[159 + ahead] as usize;
+    let mut i = lookups::first_own(rest < most, looks[144 + ahead]) as usize;
     while i < 48 {
         let weight = looks[i];
         let after = left - looks[48 + i];

@@ -1,10 +1,9 @@
-// What the search looks up for one discard byte: the ceilings, and the first bids of the clients that stay.
+// The ceilings that the search looks up for one discard byte.
 ghost use Rattle.lookups.specs.Prepared.{Summable};
 ghost use Rattle.values.specs.Needs.{Turned};
 
-// By the clients left, the sum of the largest weights of those that are not discarded, from place 152 on, and the first bid of each of them,
-// from place 159 on. Bit 0 of the byte is client 1.
-pub(crate) fn turn(discard: u8, looks: &mut [u64; 173])
+// By the clients left, from place 152 on, the sum of the largest weights of those that are not discarded. Bit 0 of the byte is client 1.
+pub(crate) fn turn(discard: u8, looks: &mut [u64; 166])
     requires { ⌜ Summable (now looks) ⌝ }
     ensures { λ _. ⌜ Turned discard (now (looks .entry)) (now (looks .exit)) ⌝ }
 {
@@ -13,8 +12,7 @@ pub(crate) fn turn(discard: u8, looks: &mut [u64; 173])
     while t < 6 {
         t += 1;
         let out = (discard >> (6 - t)) & 1 == 1;
-        sum = sum + numbers::share(!out, looks[166 + t]);
+        sum = sum + numbers::share(!out, looks[159 + t]);
         looks[152 + t] = sum;
-        looks[159 + t] = lookups::first_own(!out, looks[144 + t]);
     }
 }

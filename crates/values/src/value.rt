@@ -24,7 +24,7 @@ pub struct Values {
 }
 
 // The greatest value of a sound book, by what the search looks up; clients that a book does not have reach nothing.
-fn value_by(book: &[u8], discard: u8, left: u64, looks: &mut [u64; 173]) -> u64
+fn value_by(book: &[u8], discard: u8, left: u64, looks: &mut [u64; 166]) -> u64
     requires { ⌜ Sound (now book) ⌝ }
     requires { ⌜ Left (K-of (now book)) (supplies (book-in (now book))) left ⌝ }
     requires { ⌜ Prepared (now book) (now looks) ⌝ }
@@ -55,7 +55,7 @@ fn each(
     discards: [u8; 64],
     count: usize,
     left: u64,
-    looks: &mut [u64; 173],
+    looks: &mut [u64; 166],
 ) -> [u64; 64]
     requires { ⌜ Sound (now book) ⌝ }
     requires { ⌜ Left (K-of (now book)) (supplies (book-in (now book))) left ⌝ }

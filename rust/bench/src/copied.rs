@@ -7,23 +7,22 @@ const NONE: u64 = 48;
 const GUARDS: u64 = 0x0100_0100_0100_0100;
 
 /// What the search looks up. Clients are numbered by how many there are from each to the sixth: the turns left.
-type Looks = [u64; 173];
+type Looks = [u64; 166];
 
-/// Where in the array they stand: the weights of the bids from place 0 on, then their hours and links, then by turn first bids, ceilings,
-/// first bids of those that stay, and largest weights.
+/// Where in the array they stand: the weights of the bids from place 0 on, then their hours and links, then by turn first bids, ceilings and
+/// largest weights.
 const HOURS: usize = 48;
 const LINKS: usize = 96;
 const FIRST: usize = 144;
 const TOPS: usize = 152;
-const HEADS: usize = 159;
-const MOST: usize = 166;
+const MOST: usize = 159;
 
 fn in_lanes(hours: &[u8]) -> u64 {
     hours.iter().rev().fold(0, |lanes, &hours| lanes << 16 | u64::from(hours))
 }
 
 fn look_up(s: &Shape) -> Looks {
-    let mut looks = [NONE; 173];
+    let mut looks = [NONE; 166];
     looks[TOPS] = 0;
     looks[MOST..].fill(0);
     for i in (0..s.bids).rev() {
@@ -44,24 +43,24 @@ fn look_up(s: &Shape) -> Looks {
     looks
 }
 
-/// By the clients left, the sum of the largest weights of those that stay, and their first bids.
+/// By the clients left, the sum of the largest weights of those that stay.
 fn turn(discard: u8, looks: &mut Looks) {
     let mut sum = 0;
     for turn in 1..7 {
         let stays = (discard >> (6 - turn)) & 1 == 0;
         sum += if stays { looks[MOST + turn] } else { 0 };
         looks[TOPS + turn] = sum;
-        looks[HEADS + turn] = if stays { looks[FIRST + turn] } else { NONE };
     }
 }
 
 fn search(looks: &Looks, ahead: usize, left: u64, floor: u64) -> u64 {
-    if looks[TOPS + ahead] <= floor {
+    let most = looks[TOPS + ahead];
+    if most <= floor {
         return floor;
     }
     let rest = looks[TOPS + ahead - 1];
     let mut top = floor;
-    let mut i = looks[HEADS + ahead];
+    let mut i = if rest < most { looks[FIRST + ahead] } else { NONE };
     while i < NONE {
         let bid = i as usize;
         let weight = looks[bid];

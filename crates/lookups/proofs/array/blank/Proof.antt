@@ -10,29 +10,29 @@ use Rattle.lookups.proofs.array.blank.Statement.{statement}
 use Rattle.lookups.proofs.array.blank.Tie as tie
 
 abbrev Inv-loop : tie.InvT-loop
-Inv-loop looks₀ t₀ looks t = (t ≤ 173) × (length looks ≡ 173) × (zeros (173 - t) t looks ≡ blank)
+Inv-loop looks₀ t₀ looks t = (t ≤ 166) × (length looks ≡ 166) × (zeros (166 - t) t looks ≡ blank)
 
 abbrev μ-loop : tie.MeasureT-loop
-μ-loop looks₀ t₀ looks t = 173 - t
+μ-loop looks₀ t₀ looks t = 166 - t
 
 loop-holds : tie.Need-loop-holds Inv-loop μ-loop
 unfolding blank
-loop-holds c = (search needs, length-set {A = ℕ} (replicate 173 48) 152 0 ∙ length-replicate {A = ℕ} 173 48, refl)
+loop-holds c = (search needs, length-set {A = ℕ} (replicate 166 48) 152 0 ∙ length-replicate {A = ℕ} 166 48, refl)
 
 loop-again : tie.Need-loop-again Inv-loop μ-loop
 loop-again c =
     let l = c .before .loop in
-    let fewer : 173 - l .t - 1 ≡ 173 - (l .t + 1) = omega arith in (
+    let fewer : 166 - l .t - 1 ≡ 166 - (l .t + 1) = omega arith in (
       search needs,
       length-set (l .looks) (l .t) 0 ∙ l .inv .1,
-      rw fewer at (zeros-more (173 - l .t) (l .t) (l .looks) blank (omega (arith, c .loop-test .taken)) (l .inv .2)),
+      rw fewer at (zeros-more (166 - l .t) (l .t) (l .looks) blank (omega (arith, c .loop-test .taken)) (l .inv .2)),
     )
 
 returns : tie.Need-returns Inv-loop μ-loop
 unfolding zeros
 returns c =
     let l = c .before .loop in
-    let z : 173 - l .t ≡ 0 = omega (arith, c .loop-test .left) in
+    let z : 166 - l .t ≡ 0 = omega (arith, c .loop-test .left) in
     rw z at (l .inv .2)
 
 pub blank-spec : {M : Type 1} → statement M

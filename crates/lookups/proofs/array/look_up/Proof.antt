@@ -13,7 +13,7 @@ use Rattle.lookups.proofs.array.look_up.Statement.{statement}
 use Rattle.lookups.proofs.array.look_up.Tie as tie
 
 abbrev Inv-loop : tie.InvT-loop
-Inv-loop book k m from looks₀ i₀ looks i = (i ≤ m) × (length looks ≡ 173) × (laid (book-in book) i looks ≡ laid (book-in book) m looks₀)
+Inv-loop book k m from looks₀ i₀ looks i = (i ≤ m) × (length looks ≡ 166) × (laid (book-in book) i looks ≡ laid (book-in book) m looks₀)
 
 abbrev μ-loop : tie.MeasureT-loop
 μ-loop book k m from looks₀ i₀ looks i = i

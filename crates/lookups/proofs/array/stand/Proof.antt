@@ -11,7 +11,7 @@ use Rattle.lookups.proofs.array.stand.Statement.{statement}
 use Rattle.lookups.proofs.array.stand.Tie as tie
 
 abbrev Inv-loop : tie.InvT-loop
-Inv-loop book looks₀ t₀ looks t = (t ≤ 7) × (length looks ≡ 173) × (stood (book-in book) (7 - t) t looks ≡ stood (book-in book) 7 0 looks₀)
+Inv-loop book looks₀ t₀ looks t = (t ≤ 7) × (length looks ≡ 166) × (stood (book-in book) (7 - t) t looks ≡ stood (book-in book) 7 0 looks₀)
 
 abbrev μ-loop : tie.MeasureT-loop
 μ-loop book looks₀ t₀ looks t = 7 - t
@@ -25,7 +25,7 @@ loop-again c =
     let f = c .before .before .first-own in
     let w = c .share in (
       search needs,
-      length-set (set (l .looks) (144 + l .t) (f .result)) (166 + l .t) (w .result) ∙ length-set (l .looks) (144 + l .t) (f .result) ∙ l .inv .1,
+      length-set (set (l .looks) (144 + l .t) (f .result)) (159 + l .t) (w .result) ∙ length-set (l .looks) (144 + l .t) (f .result) ∙ l .inv .1,
       stood-more _ (l .t) (f .result) (w .result) _ (l .looks) _ (c .before .before .before .before .before .loop-test .taken) (c .before .before .before .before .is-standing .ensures)
           (f .ensures) (w .ensures .0) (l .inv .2),
     )

@@ -14,7 +14,7 @@ use Rattle.market.specs.Market.{Market, less}
 use Rattle.market.specs.Greatest.{choose}
 use Rattle.market.proofs.Bools.{and-parts}
 use Rattle.lanes.proofs.Laws.{guards-kept}
-use Rattle.values.specs.Needs.{Left, Looked, weight-in}
+use Rattle.values.specs.Needs.{Left, Head, Looked, weight-in}
 use Rattle.values.proofs.Hours.{fit-here, left-after}
 use Rattle.values.proofs.Ceilings.{owned-inside, ceiling-left, raised-few, some-left}
 use Rattle.values.proofs.Choices.{At-own, at-own-first, at-own-next, chosen-first, chosen-next, chosen-taken, chosen-left, reached, search-done, turn-next, weight-at}
@@ -23,6 +23,7 @@ use borrow.Fn.PlainCycle.{Measures, is, falls, and}
 use Rattle.values.proofs.search.search_from.Reads as search-from
 use Rattle.values.proofs.search.search_from.Kinds as search-from-kinds
 use Rattle.values.proofs.search.+search_from.Lts-search_from as lts
+use Rattle.lookups.proofs.first_own.Reads as first-own-reads
 use Rattle.numbers.proofs.excess.Reads as excess-reads
 use Rattle.values.proofs.search.may_raise.Reads as may-raise-reads
 use Rattle.values.proofs.search.+search_from.{statement}
@@ -39,6 +40,8 @@ below-turn t = and 1 search-from-kinds.ps (falls 1 search-from-kinds.ps _<_ μ-s
 
 abbrev told : ℕ → lts.Claims
 told t = (
+  first-own-reads.Asked,
+  first-own-reads.Learnt,
   may-raise-reads.Asked,
   may-raise-reads.Learnt,
   excess-reads.Asked,
@@ -56,10 +59,10 @@ abbrev Own : (ahead : ℕ) → (looks : List ℕ) → (i : ℕ) → Type 0
 Own ahead looks i = (m : Market) (k : ℕ) → Looked m k looks → At-own m (7 - ahead) i
 
 abbrev Inv-loop : lts.InvT-loop
-Inv-loop ahead left floor looks fewer rest top₀ i₀ top i = (top ≤ max floor (ahead * 4294967295)) × Own ahead looks i × Found ahead left floor looks top i
+Inv-loop ahead left floor looks most fewer rest top₀ i₀ top i = (top ≤ max floor (ahead * 4294967295)) × Own ahead looks i × Found ahead left floor looks top i
 
 abbrev μ-loop : lts.MeasureT-loop
-μ-loop ahead left floor looks fewer rest top₀ i₀ top i = 48 - i
+μ-loop ahead left floor looks most fewer rest top₀ i₀ top i = 48 - i
 
 -- a weight and a sum of weights fit 64 bits
 few-fits : (a b : ℕ) → a ≤ 4294967295 → b ≤ 30064771065 → Fits w64 (a + b)
@@ -77,41 +80,44 @@ some t c = some-left (c .before .before .args .ahead) (c .before .before .args .
 
 loop-holds : (t : ℕ) → lts.Need-loop-holds (told t) (at-turn t) search-from.Post Inv-loop μ-loop
 loop-holds t c =
-    let s = c .before .before .before .before in
+    let s = c .before .before .before .before .before in
     let a = s .args in
-    let one = some t (c .before .before) in
+    let one = some t (c .before .before .before) in
     let most = s .pre .1 .1 .clients-few in
-    let back : 7 - (7 - a .ahead) ≡ a .ahead = omega arith in (
+    let back : 7 - (7 - a .ahead) ≡ a .ahead = omega arith in
+    let next : 6 - (7 - a .ahead) ≡ a .ahead - 1 = omega arith in
+    let head : (m : Market) (k : ℕ) → Looked m k (a .looks .now) → Head m (7 - a .ahead) (c .first-own .result)
+    = λ m k h. rw (c .first-own .ensures) (rw (next, back) at (h .headed (7 - a .ahead) (omega arith) (omega arith))) in (
       omega arith,
-      (λ m k h. at-own-first m (7 - a .ahead) _ (rw back at (h .headed (7 - a .ahead) (omega arith) (omega arith)))),
-      (λ m k ls h l. chosen-first m (7 - a .ahead) ls (weight-in (a .looks .now)) (a .floor) _ _ (rw back at (h .headed (7 - a .ahead) (omega arith) (omega arith)))),
+      (λ m k h. at-own-first m (7 - a .ahead) _ (head m k h)),
+      (λ m k ls h l. chosen-first m (7 - a .ahead) ls (weight-in (a .looks .now)) (a .floor) _ _ (head m k h)),
     )
 
 sub-after : (t : ℕ) → lts.Need-sub-after (told t) (at-turn t) search-from.Post Inv-loop μ-loop
 sub-after t c =
-    let s = c .before .before .before .before .before .before .before .before in
+    let s = c .before .before .before .before .before .before .before .before .before in
     omega (arith, s .pre .1 .0 .hours-few (c .before .before .before .loop .i) (c .before .before .loop-test .taken), s .pre .1 .1 .guards)
 
 add-may-raise : (t : ℕ) → lts.Need-add-may-raise (told t) (at-turn t) search-from.Post Inv-loop μ-loop
 add-may-raise t c =
-    let s = c .before .before .before .before .before .before .before .before .before in
+    let s = c .before .before .before .before .before .before .before .before .before .before in
     few-fits _ _ (s .pre .1 .0 .weights-few (c .before .before .before .before .loop .i) (c .before .before .before .loop-test .taken))
     (s .pre .1 .1 .tops-few (s .args .ahead - 1) (omega (arith, s .pre .1 .1 .clients-few)))
 
 search-from-requires : (t : ℕ) → lts.Need-search-from-requires (told t) (at-turn t) search-from.Post Inv-loop μ-loop
 search-from-requires t c κs =
-    let s = c .before .before .before .before .before .before .before .before .before .before .before .before in
+    let s = c .before .before .before .before .before .before .before .before .before .before .before .before .before in
     let a = s .args in
     let w = s .pre .1 .1 in
     let l = c .before .before .before .before .before .before .before .loop in
     let fit = and-parts (ltb (l .top) (getD (a .looks .now) (l .i) 0 + getD (a .looks .now) (152 + (a .ahead - 1)) 0)) _ (sym (c .before .before .may-raise .ensures) ∙ c .before .if2 .taken) .1 in
-    let n = turn-next t (a .ahead) (a .left) (a .floor) _ (c .excess .result) (a .looks .now) (s .pre .0) (some t (c .before .before .before .before .before .before .before .before .before .before)) w
+    let n = turn-next t (a .ahead) (a .left) (a .floor) _ (c .excess .result) (a .looks .now) (s .pre .0) (some t (c .before .before .before .before .before .before .before .before .before .before .before)) w
     (omega (arith, c .excess .ensures, l .inv .0, w .floor-few, w .clients-few)) (guards-kept _ fit) in
     (n .0, (s .pre .1 .0, n .1))
 
 add-top : (t : ℕ) → lts.Need-add-top (told t) (at-turn t) search-from.Post Inv-loop μ-loop
 add-top t c =
-    let s = c .before .before .before .before .before .before .before .before .before .before .before .before .before in
+    let s = c .before .before .before .before .before .before .before .before .before .before .before .before .before .before in
     let w = s .pre .1 .1 in
     let l = c .before .before .before .before .before .before .before .before .loop in
     few-fits _ _ (s .pre .1 .0 .weights-few (l .i) (c .before .before .before .before .before .before .before .loop-test .taken))
@@ -121,13 +127,13 @@ loop-less : (t : ℕ) → lts.Need-loop-less (told t) (at-turn t) search-from.Po
 loop-less t c =
     let l = c .before .before .before .before .before .before .before .before .loop in
     let inside = c .before .before .before .before .before .before .before .loop-test .taken in
-    omega (arith, inside, c .before .before .before .before .before .before .before .before .before .before .before .before .before .pre .1 .0 .rises (l .i) inside)
+    omega (arith, inside, c .before .before .before .before .before .before .before .before .before .before .before .before .before .before .pre .1 .0 .rises (l .i) inside)
 
 loop-less-2 : (t : ℕ) → lts.Need-loop-less-2 (told t) (at-turn t) search-from.Post Inv-loop μ-loop
 loop-less-2 t c =
     let l = c .before .before .before .before .before .before .loop in
     let inside = c .before .before .before .before .before .loop-test .taken in
-    omega (arith, inside, c .before .before .before .before .before .before .before .before .before .before .before .pre .1 .0 .rises (l .i) inside)
+    omega (arith, inside, c .before .before .before .before .before .before .before .before .before .before .before .before .pre .1 .0 .rises (l .i) inside)
 
 -- the next bid is the client's own, and the choice among the bids before it is that among one bid more
 own-next : (ahead : ℕ) (looks : List ℕ) (i : ℕ) → 1 ≤ 7 - ahead → i < 48 → Own ahead looks i → Own ahead looks (getD looks (96 + i) 0)
@@ -144,13 +150,13 @@ found-next ahead left floor looks now i one inside own found m k ls h l =
 loop-again : (t : ℕ) → lts.Need-loop-again (told t) (at-turn t) search-from.Post Inv-loop μ-loop
 loop-again t c =
     let l = c .before .before .before .before .before .before .before .before .loop in
-    let s = c .before .before .before .before .before .before .before .before .before .before .before .before .before in
+    let s = c .before .before .before .before .before .before .before .before .before .before .before .before .before .before in
     let a = s .args in
     let w = s .pre .1 .1 in
     let client = 7 - a .ahead in
     let one : 1 ≤ client = omega (arith, w .clients-few) in
     let inside = c .before .before .before .before .before .before .before .loop-test .taken in
-    let there = some t (c .before .before .before .before .before .before .before .before .before .before .before) in
+    let there = some t (c .before .before .before .before .before .before .before .before .before .before .before .before) in
     let raise = c .before .before .before .may-raise .ensures in
     let weight = getD (a .looks .now) (l .i) 0 in
     let next = getD (a .looks .now) (152 + (a .ahead - 1)) 0 in
@@ -170,7 +176,7 @@ loop-again t c =
 loop-again-2 : (t : ℕ) → lts.Need-loop-again-2 (told t) (at-turn t) search-from.Post Inv-loop μ-loop
 loop-again-2 t c =
     let l = c .before .before .before .before .before .before .loop in
-    let s = c .before .before .before .before .before .before .before .before .before .before .before in
+    let s = c .before .before .before .before .before .before .before .before .before .before .before .before in
     let a = s .args in
     let client = 7 - a .ahead in
     let one : 1 ≤ client = omega (arith, s .pre .1 .1 .clients-few) in
@@ -191,20 +197,20 @@ loop-again-2 t c =
 
 search-from-requires-2 : (t : ℕ) → lts.Need-search-from-requires-2 (told t) (at-turn t) search-from.Post Inv-loop μ-loop
 search-from-requires-2 t c κs =
-    let s = c .before .before .before .before .before .before in
+    let s = c .before .before .before .before .before .before .before in
     let a = s .args in
     let w = s .pre .1 .1 in
-    let n = turn-next t (a .ahead) (a .left) (a .floor) (a .left) (c .before .loop .top) (a .looks .now) (s .pre .0) (some t (c .before .before .before .before)) w
+    let n = turn-next t (a .ahead) (a .left) (a .floor) (a .left) (c .before .loop .top) (a .looks .now) (s .pre .0) (some t (c .before .before .before .before .before)) w
     (omega (arith, c .before .loop .inv .0, w .floor-few, w .clients-few)) (w .guards) in
     (n .0, (s .pre .1 .0, n .1))
 
 returns-2 : (t : ℕ) → lts.Need-returns-2 (told t) (at-turn t) search-from.Post Inv-loop μ-loop
 returns-2 t c =
-    let s = c .before .before .before .before .before .before .before in
+    let s = c .before .before .before .before .before .before .before .before in
     let a = s .args in
     let l = c .before .before .loop in (
       omega (arith, c .search-from2 .ensures .0, l .inv .0),
-      λ m k ls h left. search-done m (weight-in (a .looks .now)) (a .ahead) ls (a .floor) (l .top) (l .i) _ (some t (c .before .before .before .before .before)) (s .pre .1 .1 .clients-few) (h .owned)
+      λ m k ls h left. search-done m (weight-in (a .looks .now)) (a .ahead) ls (a .floor) (l .top) (l .i) _ (some t (c .before .before .before .before .before .before)) (s .pre .1 .1 .clients-few) (h .owned)
           (c .before .loop-test .left) (l .inv .2 m k ls h left) (c .search-from2 .ensures .1 m k ls h left),
     )
 
@@ -225,6 +231,7 @@ pub +search-from-spec : {M : Type 1} → statement M
     (λ c. omega (arith, c .before .before .before .pre .1 .1 .clients-few))
     (λ c. omega (arith, c .before .before .before .pre .1 .1 .clients-few))
     (λ c. omega (arith, c .before .before .before .pre .1 .1 .clients-few))
+    (λ c κs. search needs)
     (loop-holds t)
     (λ c. search needs)
     (λ c. search needs)
