@@ -1,5 +1,5 @@
--- Ceilings over the clients of a market: they bound the recursion, and tell whose bids may be taken. Cited by the proof of src/search.rt.
--- Assumes nothing.
+-- Ceilings over the clients of a market: they bound the recursion, and what is found under them stays small. Cited by the proof of
+-- src/search.rt and by Found.antt. Assumes nothing.
 use mathlib.Core.Path.{_≡_}
 use mathlib.Core.List.{List}
 use Prim.Native.Nat.{ℕ, zero, suc, _+_, _*_, _-_, _≤_, _<_, max}
@@ -7,6 +7,8 @@ use native.Mathlib.Nat.{le-refl}
 use native.Mathlib.Numerals.{add-one}
 use native.Mathlib.Omega.{arith}
 use native.Mathlib.Decide.{decLt}
+use mir.Val.{Fits}
+use mir.Syntax.{w64}
 use lib.ListN.{getD}
 use Rattle.market.specs.Market.{Market}
 use Rattle.market.specs.Greatest.{best}
@@ -41,6 +43,10 @@ module _ (m : Market) (xs : List ℕ) (h : Ceiling m xs) where
 pub some-left : (ahead floor : ℕ) (xs : List ℕ) → getD xs 152 0 ≡ 0 → floor < getD xs (152 + ahead) 0 → 0 < ahead
 some-left zero floor xs e l = absurd (omega arith)
 some-left (suc ahead) floor xs e l = omega arith
+
+-- a weight and a sum of weights fit 64 bits
+pub few-fits : (a b : ℕ) → a ≤ 4294967295 → b ≤ 30064771065 → Fits w64 (a + b)
+few-fits a b l h = omega arith
 
 -- what is found stays small: a bid's weight, and as much again for each client after its own
 pub raised-few : (ahead floor top weight base more now : ℕ) → 0 < ahead → weight ≤ 4294967295 → now ≡ weight + more → base ≡ top - weight

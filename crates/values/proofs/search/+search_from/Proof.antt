@@ -6,8 +6,6 @@ use mathlib.Core.List.{List}
 use Prim.Native.Nat.{ℕ, _+_, _*_, _-_, _≤_, _<_, max}
 use native.Mathlib.Nat.{le-trans, max-eq-left}
 use native.Mathlib.Omega.{arith}
-use mir.Val.{Fits}
-use mir.Syntax.{w64}
 use lib.Dec.{ltb}
 use lib.ListN.{getD}
 use Rattle.market.specs.Market.{Market, less}
@@ -16,7 +14,7 @@ use Rattle.market.proofs.Bools.{and-parts}
 use Rattle.lanes.proofs.Laws.{guards-kept}
 use Rattle.values.specs.Needs.{Left, Head, Looked, weight-in}
 use Rattle.values.proofs.Hours.{fit-here, left-after}
-use Rattle.values.proofs.Ceilings.{owned-inside, ceiling-left, raised-few, some-left}
+use Rattle.values.proofs.Ceilings.{owned-inside, ceiling-left, few-fits, raised-few, some-left}
 use Rattle.values.proofs.Choices.{At-own, at-own-first, at-own-next, chosen-first, chosen-next, chosen-taken, chosen-left, reached, search-done, turn-next, weight-at}
 use borrow.Fn.Kinds.{In}
 use borrow.Fn.PlainCycle.{Measures, is, falls, and}
@@ -63,10 +61,6 @@ Inv-loop ahead left floor looks most fewer rest top₀ i₀ top i = (top ≤ max
 
 abbrev μ-loop : lts.MeasureT-loop
 μ-loop ahead left floor looks most fewer rest top₀ i₀ top i = 48 - i
-
--- a weight and a sum of weights fit 64 bits
-few-fits : (a b : ℕ) → a ≤ 4294967295 → b ≤ 30064771065 → Fits w64 (a + b)
-few-fits a b l h = omega arith
 
 returns : (t : ℕ) → lts.Need-returns (told t) (at-turn t) search-from.Post Inv-loop μ-loop
 returns t c =
