@@ -1,4 +1,4 @@
--- Four entries of a list, cut to those that count. Cited by the proofs of src/lib.rt, of crates/values and of crates/choice. Assumes nothing.
+-- Four entries of a list, cut to those that count. Cited by the proofs of src/lib.rt, of crates/lookups, values and choice. Assumes nothing.
 use mathlib.Core.Path.{_≡_, refl, sym, ap, _∙_}
 use mathlib.Core.List.{List, [], _∷_}
 use Prim.Native.Nat.{ℕ, zero, suc, _+_, _-_, _≤_, _<_}
