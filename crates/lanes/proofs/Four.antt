@@ -2,14 +2,14 @@
 use mathlib.Core.Path.{_≡_, refl, sym, _∙_}
 use mathlib.Core.Bool.{cond}
 use mathlib.Core.List.{List, [], _∷_}
-use Prim.Native.Nat.{ℕ, zero, suc, _+_, _*_, _≤_}
+use Prim.Native.Nat.{ℕ, zero, suc, _+_, _*_, _-_, _≤_}
 use native.Mathlib.Omega.{arith}
 use native.Mathlib.Decide.{decLt}
 use borrow.Author.Tests.{le-leb, lt-leb}
 use lib.Dec.{leb}
 use lib.ListN.{length, getD, take, length-take, List·getD-eq-default}
 use lib.Seq.{getD-take, take-all}
-use Rattle.lanes.specs.Lanes.{packed, guarded, Bytes}
+use Rattle.lanes.specs.Lanes.{packed, used, Bytes}
 
 -- what a lane holds is the entry of the list that is cut to k
 lane-says : (k kind : ℕ) (xs : List ℕ) → cond (leb k kind) 0 (getD xs kind 0) ≡ getD (take k xs) kind 0
@@ -43,13 +43,13 @@ bytes-four k xs e a b c d p q r s (la, lb, lc, ld) (suc (suc (suc zero))) = omeg
 bytes-four k xs e a b c d p q r s l (suc (suc (suc (suc i)))) =
     let z : getD (take k xs) (suc (suc (suc (suc i)))) 0 ≡ 0 = List·getD-eq-default (take k xs) 0 (omega (arith, length-take k xs)) in omega arith
 
--- the guards are added to the hours
-guarded-is : (n : ℕ) (ls : List ℕ) → length ls ≤ n → guarded n ls ≡ packed ls + guarded n []
-unfolding packed guarded
-guarded-is n [] l = omega arith
-guarded-is zero (x ∷ ls) l = absurd (omega arith)
-guarded-is (suc n) (x ∷ ls) l = omega (arith, guarded-is n ls (omega arith))
+-- used and left make up 255 in each lane
+used-is : (n : ℕ) (ls : List ℕ) → length ls ≤ n → Bytes ls → used n ls + packed ls ≡ used n []
+unfolding packed used
+used-is n [] l b = omega arith
+used-is zero (x ∷ ls) l b = absurd (omega arith)
+used-is (suc n) (x ∷ ls) l b = omega (arith, b 0, used-is n ls (omega arith) (λ i. b (suc i)))
 
-pub guarded-four : (xs : List ℕ) → length xs ≡ 4 → packed (take 4 xs) + 72058693566333184 ≡ guarded 4 xs
-unfolding guarded
-guarded-four xs e = rw (take-all 4 xs (omega arith)) (sym (guarded-is 4 xs (omega arith)))
+pub used-four : (xs : List ℕ) → length xs ≡ 4 → Bytes xs → 71777214294589695 - packed (take 4 xs) ≡ used 4 xs
+unfolding used
+used-four xs e b = rw (take-all 4 xs (omega arith)) (omega (arith, used-is 4 xs (omega arith) b))

@@ -1,7 +1,8 @@
-// The hours of up to four kinds in one number: a lane of 16 bits for each kind, the first kind lowest. What is left has a guard bit (256)
-// above each lane's byte, so that the hours asked are taken by one subtraction, and fit if and only if every guard is still there.
+// The hours of up to four kinds in one number: a lane of 16 bits for each kind, the first kind lowest. Instead of the hours left there are
+// those used, which in each lane are 255 less those left. So the hours asked are taken by one addition, and they fit if and only if no lane
+// goes over 255: then bit 8 of each lane, its guard (256), is clear.
 //
-// What a client may cite: `packed`, the hours asked; `guarded`, the hours left; `fit`, whether every guard is there. Each takes anything,
+// What a client may cite: `packed`, the hours asked; `used`, the hours used; `fit`, whether every guard is clear. Each takes anything,
 // asks nothing of its caller, and its contract gives its result as a value. The search of the layer above cites them, with the laws of proofs/.
 ghost use mathlib.Core.Path.{_≡_};
 ghost use mathlib.Core.Bool.{cond};
@@ -9,7 +10,7 @@ ghost use Prim.Native.Nat.{_≤_};
 ghost use lib.Bits.{bitAnd};
 ghost use lib.Dec.{leb, eqb};
 ghost use lib.ListN.{take};
-ghost use Rattle.lanes.specs.Lanes.{packed, guarded, Bytes};
+ghost use Rattle.lanes.specs.Lanes.{packed, used, Bytes};
 
 // What one kind's lane holds: its hours, or 0 past the first k kinds.
 fn lane(k: usize, kind: usize, hours: u8) -> u64
@@ -29,16 +30,16 @@ pub fn packed(k: usize, asked: [u8; 4]) -> u64
     a + b * 65536 + c * 4294967296 + d * 281474976710656
 }
 
-// The hours left, each lane with its guard.
-pub fn guarded(left: [u8; 4]) -> u64
-    ensures { λ r. ⌜ (r ≡ guarded 4 left) × (72058693566333184 ≤ r) × Bytes left ⌝ }
+// The hours used where these are left.
+pub fn used(left: [u8; 4]) -> u64
+    ensures { λ r. ⌜ (r ≡ used 4 left) × (r ≤ 71777214294589695) × Bytes left ⌝ }
 {
-    packed(4, left) + 72058693566333184
+    71777214294589695 - packed(4, left)
 }
 
-// Whether every guard is there.
+// Whether every guard is clear.
 pub fn fit(after: u64) -> bool
-    ensures { λ r. ⌜ r ≡ eqb (bitAnd after 72058693566333184) 72058693566333184 ⌝ }
+    ensures { λ r. ⌜ r ≡ eqb (bitAnd after 72058693566333184) 0 ⌝ }
 {
-    after & 72058693566333184 == 72058693566333184
+    after & 72058693566333184 == 0
 }

@@ -9,7 +9,7 @@ use lib.ListN.{length, getD, set, replicate}
 use Rattle.book.specs.Book.{Book, bid-at, client-of, standing, supplies}
 use Rattle.book.specs.Layout.{book-in}
 use Rattle.book.specs.Questions.{book-refusal}
-use Rattle.lanes.specs.Lanes.{packed, guarded}
+use Rattle.lanes.specs.Lanes.{packed, used}
 use Rattle.combinations.specs.Combinations.{amount-of}
 use Rattle.hours.specs.Four.{four}
 
@@ -48,8 +48,9 @@ stood b (suc n) t xs = stood b n (t + 1) (settled (standing b (7 - t)) t xs)
 unfoldable pub looks-of : Book → List ℕ
 looks-of b = stood b 7 0 (laid b (length (b .bids)) blank)
 
--- all that the search looks up, zeros for a book that is refused
-pub record Looks-are (bs : List ℕ) (number left : ℕ) (looks : List ℕ) : Type 0 where
+-- all that the search looks up: the book's number, the hours used where its supply is left, and what has become of an array; a book that is
+-- refused has no hours, and the array is as it was
+pub record Looks-are (bs before : List ℕ) (number hours : ℕ) (after : List ℕ) : Type 0 where
   pub numbered : number ≡ book-refusal bs
-  pub supplied : left ≡ cond (eqb (book-refusal bs) 0) (guarded 4 (four (supplies (book-in bs)))) 0
-  pub looked : looks ≡ cond (eqb (book-refusal bs) 0) (looks-of (book-in bs)) (replicate 166 0)
+  pub supplied : hours ≡ cond (eqb (book-refusal bs) 0) (used 4 (four (supplies (book-in bs)))) 0
+  pub looked : after ≡ cond (eqb (book-refusal bs) 0) (looks-of (book-in bs)) before

@@ -14,17 +14,16 @@ ghost use Rattle.lookups.specs.Needs.{Placed, Owned};
 ghost use Rattle.lookups.specs.Looks.{blank, laid, stood, looks-of};
 
 // No bid yet: every link leads to none, which is 48, and ceilings and largest weights are 0.
-pub(crate) fn blank() -> [u64; 166]
-    ensures { λ r. ⌜ r ≡ blank ⌝ }
+pub(crate) fn blank(looks: &mut [u64; 166])
+    ensures { λ _. ⌜ now (looks .exit) ≡ blank ⌝ }
 {
-    let mut looks = [48u64; 166];
+    *looks = [48u64; 166];
     looks[152] = 0;
     let mut t: usize = 159;
     while t < 166 {
         looks[t] = 0;
         t += 1;
     }
-    looks
 }
 
 // Each bid's weight, which is its amount, from place 48 on its hours in lanes, and from place 96 on the next bid of its client; from place

@@ -113,10 +113,10 @@ module _ (m : Market) (wt : ℕ → ℕ) (ahead : ℕ) where
       ∙ ap (λ (v : ℕ). max floor v) (sym (rw next at (best-at m wt ahead c ls l)))
 
 -- one client fewer
-pub turn-next : (t ahead left floor after low : ℕ) (xs : List ℕ) → ahead ≡ t → 0 < ahead → Turn ahead left floor xs → low ≤ 30064771065 → 72058693566333184 ≤ after
+pub turn-next : (t ahead used floor after low : ℕ) (xs : List ℕ) → ahead ≡ t → 0 < ahead → Turn ahead used floor xs → low ≤ 30064771065 → after ≤ used + 71777214294589695
     → (ahead - 1 < t) × Turn (ahead - 1) after low xs
-turn-next t ahead left floor after low xs e n w l g =
-    (omega arith, record { clients-few = omega (arith, w .clients-few); floor-few = l; guards = g; tops-few = w .tops-few; bottom = w .bottom })
+turn-next t ahead used floor after low xs e n w l g =
+    (omega arith, record { clients-few = omega (arith, w .clients-few); floor-few = l; used-few = omega (arith, w .used-few, w .clients-few); tops-few = w .tops-few; bottom = w .bottom })
 
 -- the weight that stands in the array is the bid's
 pub weight-at : (xs : List ℕ) (i : ℕ) → getD xs i 0 ≡ weight-in xs (i + 1)

@@ -25,8 +25,8 @@ use Rattle.market.specs.Market.{Market}
 use Rattle.market.specs.Greatest.{best}
 use Rattle.market.proofs.Bools.{either, and-parts}
 use Rattle.market.proofs.Prune.{best-idle, best-weights}
-use Rattle.lanes.specs.Lanes.{guarded, Bytes}
-use Rattle.lanes.proofs.Laws.{guarded-short}
+use Rattle.lanes.specs.Lanes.{used, Bytes}
+use Rattle.lanes.proofs.Laws.{used-short}
 use Rattle.combinations.specs.Combinations.{market, amount-of}
 use Rattle.combinations.specs.Greatest.{without, discarded, greatest, greatest-without}
 use Rattle.combinations.proofs.Refusals.{refusal-none}
@@ -60,23 +60,23 @@ past-four xs h (suc (suc zero)) l = List·getD-eq-default xs 0 l
 past-four xs h (suc (suc (suc zero))) l = List·getD-eq-default xs 0 l
 past-four xs h (suc (suc (suc (suc i)))) l = refl
 
-supply-left : (bs : List ℕ) (left : ℕ) → Sound bs → Bytes bs → left ≡ guarded 4 (four (supplies (book-in bs))) → Left (K-of bs) (supplies (book-in bs)) left
-supply-left bs left s b g =
+supply-left : (bs : List ℕ) (hours : ℕ) → Sound bs → Bytes bs → hours ≡ used 4 (four (supplies (book-in bs))) → Left (K-of bs) (supplies (book-in bs)) hours
+supply-left bs hours s b g =
     let count = supplies-count bs in
     record {
       kinds = count;
       kinds-few = s .K-high;
       bytes = λ i. elim (decLt i (K-of bs)) [ yes l ↦ omega (arith, b (4 + 3 * i), supply-at bs i l) | no l ↦ omega (arith, supply-past bs i (omega arith)) ];
-      guards = g ∙ guarded-short (supplies (book-in bs)) _ (rw count (supply-take bs (K-of bs) _ (s .K-high) refl refl)) (past-four (supplies (book-in bs)) (omega (arith, count, s .K-high)));
+      lanes = g ∙ used-short (supplies (book-in bs)) _ (rw count (supply-take bs (K-of bs) _ (s .K-high) refl refl)) (past-four (supplies (book-in bs)) (omega (arith, count, s .K-high)));
     }
 
 -- what is made once for a book that is not refused
-pub made-sound : (bs : List ℕ) (n left : ℕ) (xs : List ℕ) → Bytes bs → Looks-are bs n left xs → n ≤ 0
-    → Sound bs × (Left (K-of bs) (supplies (book-in bs)) left × Prepared bs xs)
-made-sound bs n left xs b h l =
+pub made-sound : (bs before : List ℕ) (n hours : ℕ) (xs : List ℕ) → Bytes bs → Looks-are bs before n hours xs → n ≤ 0
+    → Sound bs × (Left (K-of bs) (supplies (book-in bs)) hours × Prepared bs xs)
+made-sound bs before n hours xs b h l =
     let none = refusal-none (h .numbered) l in
     let s = sound bs none in
-    (s, (supply-left bs left s b (rw none at (h .supplied)), rw (rw none at (h .looked)) (looks-prepared bs s b)))
+    (s, (supply-left bs hours s b (rw none at (h .supplied)), rw (rw none at (h .looked)) (looks-prepared bs s b)))
 
 -- what one discard byte changes leaves the rest as it was
 module _ (d : ℕ) (xs ys : List ℕ) where
@@ -108,11 +108,11 @@ module _ (d : ℕ) (xs ys : List ℕ) where
       }
 
   -- the search may begin
-  pub turned-turn : (left : ℕ) → Turned d xs ys → 72058693566333184 ≤ left → Turn 6 left 0 ys
-  turned-turn left t g = record {
+  pub turned-turn : (hours : ℕ) → Turned d xs ys → hours ≤ 71777214294589695 → Turn 6 hours 0 ys
+  turned-turn hours t g = record {
     clients-few = omega arith;
     floor-few = omega arith;
-    guards = g;
+    used-few = omega arith;
     tops-few = λ i l. omega (arith, t .topped .few i l);
     bottom = t .topped .bottom;
   }

@@ -9,7 +9,7 @@ use Prim.Native.Nat.{ℕ, zero, suc, _+_, _*_, _-_, _≤_, _<_}
 use lib.Dec.{ltb}
 use lib.ListN.{length, getD}
 use Rattle.market.specs.Market.{Market}
-use Rattle.lanes.specs.Lanes.{guarded, Bytes}
+use Rattle.lanes.specs.Lanes.{used, Bytes}
 use Rattle.combinations.specs.Greatest.{discarded}
 use Rattle.lookups.specs.Needs.{Owned}
 use Rattle.lookups.specs.Prepared.{Asked, Links}
@@ -19,12 +19,12 @@ unfoldable pub weight-in : List ℕ → (bid : ℕ) → ℕ
 weight-in xs zero = 0
 weight-in xs (suc i) = getD xs i 0
 
--- a number holds the hours left of k kinds, guarded
+-- a number holds the hours used where these are left, of k kinds
 pub record Left (k : ℕ) (hours : List ℕ) (number : ℕ) : Type 0 where
   pub kinds : length hours ≡ k
   pub kinds-few : k ≤ 4
   pub bytes : Bytes hours
-  pub guards : number ≡ guarded 4 hours
+  pub lanes : number ≡ used 4 hours
 
 -- the ceilings of the last clients, one, two and up to t of them: they do not fall, they rise only where a client is `on`, and there by its entry
 pub record Topped (on : ℕ → Bool) (t sum : ℕ) (xs : List ℕ) : Type 0 where
@@ -69,10 +69,11 @@ pub record Looked (m : Market) (k : ℕ) (xs : List ℕ) : Type 0 where
   pub ceiling : Ceiling m xs
   pub headed : (c : ℕ) → 1 ≤ c → c ≤ 6 → Head m c (begins xs c)
 
--- the clients left are few, so is what is already found, no guard is missing, and where no client is left the ceiling is 0
-pub record Turn (ahead left floor : ℕ) (xs : List ℕ) : Type 0 where
+-- the clients left are few, so is what is already found, each client before them has used few hours, and where no client is left the
+-- ceiling is 0
+pub record Turn (ahead used floor : ℕ) (xs : List ℕ) : Type 0 where
   pub clients-few : ahead ≤ 6
   pub floor-few : floor ≤ 30064771065
-  pub guards : 72058693566333184 ≤ left
+  pub used-few : used ≤ (7 - ahead) * 71777214294589695
   pub tops-few : (t : ℕ) → t ≤ 6 → getD xs (152 + t) 0 ≤ 30064771065
   pub bottom : getD xs 152 0 ≡ 0

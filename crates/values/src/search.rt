@@ -1,5 +1,5 @@
 // The greatest value by a search on the clients left, which fall by one at each call. It leaves out what cannot beat the floor, the
-// value that is already found: by the ceilings of the clients left. The hours of a bid and the hours left are numbers of crates/lanes.
+// value that is already found: by the ceilings of the clients left. The hours of a bid and the hours used are numbers of crates/lanes.
 ghost use mathlib.Core.Path.{_≡_};
 ghost use mathlib.Core.Bool.{_&&_};
 ghost use mathlib.Core.List.{List};
@@ -18,9 +18,9 @@ fn beats(most: u64, top: u64) -> bool
     top < most
 }
 
-// Whether a bid can raise the best, by the most that it can come to, and fits: no guard is missing from what it would leave.
+// Whether a bid can raise the best, by the most that it can come to, and fits: every guard is clear of what would be used.
 fn may_raise(after: u64, top: u64, most: u64) -> bool
-    ensures { λ r. ⌜ r ≡ (ltb top most && eqb (bitAnd after 72058693566333184) 72058693566333184) ⌝ }
+    ensures { λ r. ⌜ r ≡ (ltb top most && eqb (bitAnd after 72058693566333184) 0) ⌝ }
 {
     if beats(most, top) {
         return lanes::fit(after);
@@ -28,13 +28,13 @@ fn may_raise(after: u64, top: u64, most: u64) -> bool
     false
 }
 
-// The larger of the floor and of the greatest value of the last clients (`ahead` of them) with the hours left, in whatever market the
+// The larger of the floor and of the greatest value of the last clients (`ahead` of them) with the hours that are left, in whatever market the
 // array lays out. The ceilings are by the clients left, and where none is left it is 0.
-pub(crate) fn search_from(ahead: usize, left: u64, floor: u64, looks: &[u64; 166]) -> u64
+pub(crate) fn search_from(ahead: usize, used: u64, floor: u64, looks: &[u64; 166]) -> u64
     requires { ⌜ Ready (now looks) ⌝ }
-    requires { ⌜ Turn ahead left floor (now looks) ⌝ }
+    requires { ⌜ Turn ahead used floor (now looks) ⌝ }
     ensures { λ r. ⌜ r ≤ max floor (ahead * 4294967295) ⌝ }
-    ensures { λ r. ⌜ ((m : Market) (k : ℕ) (hours : List ℕ) → Looked m k (now (looks .entry)) → Left k hours left → r ≡ max floor (best m (weight-in (now (looks .entry))) ahead (7 - ahead) hours)) ⌝ }
+    ensures { λ r. ⌜ ((m : Market) (k : ℕ) (hours : List ℕ) → Looked m k (now (looks .entry)) → Left k hours used → r ≡ max floor (best m (weight-in (now (looks .entry))) ahead (7 - ahead) hours)) ⌝ }
 {
     let most = looks[152 + ahead];
     if most <= floor {
@@ -46,7 +46,7 @@ pub(crate) fn search_from(ahead: usize, left: u64, floor: u64, looks: &[u64; 166
     let mut i = lookups::first_own(rest < most, looks[144 + ahead]) as usize;
     while i < 48 {
         let weight = looks[i];
-        let after = left - looks[48 + i];
+        let after = used + looks[48 + i];
         let next = looks[96 + i] as usize;
         if may_raise(after, top, weight + rest) {
             let base = numbers::excess(top, weight);
@@ -55,5 +55,5 @@ pub(crate) fn search_from(ahead: usize, left: u64, floor: u64, looks: &[u64; 166
         }
         i = next;
     }
-    search_from(fewer, left, top, looks)
+    search_from(fewer, used, top, looks)
 }

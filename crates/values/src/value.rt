@@ -3,6 +3,7 @@ use crate::search;
 use crate::tops;
 ghost use mathlib.Core.Path.{_≡_};
 ghost use Prim.Native.Nat.{_≤_};
+ghost use lib.ListN.{replicate};
 ghost use Rattle.book.specs.Book.{supplies};
 ghost use Rattle.book.specs.Layout.{K-of, book-in};
 ghost use Rattle.book.specs.Sound.{Sound};
@@ -24,28 +25,28 @@ pub struct Values {
 }
 
 // The greatest value of a sound book, by what the search looks up; clients that a book does not have reach nothing.
-fn value_by(book: &[u8], discard: u8, left: u64, looks: &mut [u64; 166]) -> u64
+fn value_by(book: &[u8], discard: u8, used: u64, looks: &mut [u64; 166]) -> u64
     requires { ⌜ Sound (now book) ⌝ }
-    requires { ⌜ Left (K-of (now book)) (supplies (book-in (now book))) left ⌝ }
+    requires { ⌜ Left (K-of (now book)) (supplies (book-in (now book))) used ⌝ }
     requires { ⌜ Prepared (now book) (now looks) ⌝ }
     ensures { λ r. ⌜ (r ≡ greatest (book-in (now (book .entry))) discard) × (r ≤ 6000000) ⌝ }
     ensures { λ _. ⌜ Prepared (now (book .entry)) (now (looks .exit)) ⌝ }
 {
     tops::turn(discard, looks);
-    search::search_from(6, left, 0, looks)
+    search::search_from(6, used, 0, looks)
 }
 
 // The greatest value of any bytes for one discard byte.
 pub fn value_of(book: &[u8], discard: u8) -> Value
     ensures { λ r. ⌜ Value-is (now (book .entry)) discard (r .number) (r .value) ⌝ }
 {
-    let mut made = lookups::lay_out(book);
+    let mut looks = [0u64; 166];
+    let made = lookups::lay_out(book, &mut looks);
     let number = made.number;
     if 0 < number {
         return Value { number, value: 0 };
     }
-    let left = made.left;
-    let value = value_by(book, discard, left, &mut made.looks);
+    let value = value_by(book, discard, made.used, &mut looks);
     Value { number, value }
 }
 
@@ -54,37 +55,44 @@ fn each(
     book: &[u8],
     discards: [u8; 64],
     count: usize,
-    left: u64,
+    used: u64,
     looks: &mut [u64; 166],
-) -> [u64; 64]
+    values: &mut [u64; 64],
+)
     requires { ⌜ Sound (now book) ⌝ }
-    requires { ⌜ Left (K-of (now book)) (supplies (book-in (now book))) left ⌝ }
+    requires { ⌜ Left (K-of (now book)) (supplies (book-in (now book))) used ⌝ }
     requires { ⌜ Prepared (now book) (now looks) ⌝ }
-    ensures { λ r. ⌜ r ≡ values-of (now (book .entry)) discards count ⌝ }
+    requires { ⌜ now values ≡ replicate 64 0 ⌝ }
+    ensures { λ _. ⌜ now (values .exit) ≡ values-of (now (book .entry)) discards count ⌝ }
 {
     let end = numbers::smaller(count, 64);
-    let mut values = [0u64; 64];
     let mut j: usize = 0;
     while j < end {
-        values[j] = value_by(book, discards[j], left, looks);
+        values[j] = value_by(book, discards[j], used, looks);
         j += 1;
     }
-    values
 }
 
 // The greatest values of any bytes for the first of 64 discard bytes.
 pub fn values_of(book: &[u8], discards: [u8; 64], count: usize) -> Values
     ensures { λ r. ⌜ Values-are (now (book .entry)) discards count (r .number) (r .values) ⌝ }
 {
-    let mut made = lookups::lay_out(book);
-    let number = made.number;
-    if 0 < number {
-        return Values {
-            number,
-            values: [0; 64],
-        };
+    let mut looks = [0u64; 166];
+    let made = lookups::lay_out(book, &mut looks);
+    let mut found = Values {
+        number: made.number,
+        values: [0; 64],
+    };
+    if 0 < found.number {
+        return found;
     }
-    let left = made.left;
-    let values = each(book, discards, count, left, &mut made.looks);
-    Values { number, values }
+    each(
+        book,
+        discards,
+        count,
+        made.used,
+        &mut looks,
+        &mut found.values,
+    );
+    found
 }

@@ -65,8 +65,9 @@ module _ (clients : List ℕ) (count : ℕ) (h : Listed clients count) (e : leng
     bit : (bit-of (getD clients j 0) ≡ 2 ^ (getD clients j 0 - 1)) × (2 ^ (getD clients j 0 - 1) ≤ 32)
     bit = bit-is _ (listed-range clients count j h e l .1)
 
-    pub bytes-room : Room ds (sets-of j) (bit-of (getD clients j 0))
-    bytes-room = record {
+    pub bytes-room : length ds ≡ 64 → Room ds (sets-of j) (bit-of (getD clients j 0))
+    bytes-room long = record {
+      long = long;
       few = omega (arith, sets-are);
       low = omega (arith, bit);
       most = λ L k. omega (arith, b L (omega (arith, sets-are)), byte-small 6 (early (take count clients) L j) (omega arith));

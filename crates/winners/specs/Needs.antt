@@ -17,6 +17,7 @@ pub record Listed (clients : List ℕ) (count : ℕ) : Type 0 where
 
 -- room for the sets of one client more, and for its bit in each byte
 pub record Room (discards : List ℕ) (end bit : ℕ) : Type 0 where
+  pub long : length discards ≡ 64
   pub few : end ≤ 32
   pub low : bit ≤ 32
   pub most : (L : ℕ) → L < end → getD discards L 0 < 64
@@ -30,7 +31,7 @@ pub record Doubled (discards : List ℕ) (end bit set : ℕ) (out : List ℕ) : 
 abbrev pub Discards : (clients : List ℕ) → (count : ℕ) → List ℕ → Type 0
 Discards cs w ds = (L : ℕ) → L < 2 ^ w → getD ds L 0 ≡ set-of 6 (λ j. picked (take w cs) L (suc j))
 
--- by set number, what the value of all exceeds the value without the set by; 0 for numbers that are no set
-pub record Differences (values : List ℕ) (count : ℕ) (sigma : List ℕ) : Type 0 where
+-- by set number, what the value of all exceeds the value without the set by; numbers that are none of the first sets have what they had
+pub record Differences (values : List ℕ) (sets : ℕ) (sigma : List ℕ) : Type 0 where
   pub long : length sigma ≡ 64
-  pub each : (L : ℕ) → getD sigma L 0 ≡ cond (ltb L (2 ^ count)) (getD values 0 0 - getD values L 0) 0
+  pub each : (L : ℕ) → getD sigma L 0 ≡ cond (ltb L sets) (getD values 0 0 - getD values L 0) (getD values L 0)

@@ -3,7 +3,7 @@ use book::flags;
 ghost use mathlib.Core.Path.{_≡_};
 ghost use mathlib.Core.Bool.{_&&_};
 ghost use lib.Dec.{leb};
-ghost use lib.ListN.{take};
+ghost use lib.ListN.{length, take};
 ghost use Rattle.winners.specs.Needs.{Listed, Room, Doubled, Discards};
 ghost use Rattle.winners.specs.Surpluses.{rising-to};
 
@@ -26,18 +26,17 @@ pub(crate) fn is_rising(clients: [u8; 6], count: usize, n: usize) -> bool
     ok
 }
 
-// The bytes of the first `end` sets, and after them each once more with one bit.
-fn doubled(discards: [u8; 64], end: usize, bit: u8) -> [u8; 64]
-    requires { ⌜ Room discards end bit ⌝ }
-    ensures { λ r. ⌜ Doubled discards end bit end r ⌝ }
+// After the bytes of the first `end` sets each of them once more, with one bit.
+fn double(discards: &mut [u8; 64], end: usize, bit: u8)
+    requires { ⌜ Room (now discards) end bit ⌝ }
+    ensures { λ _. ⌜ Doubled (now (discards .entry)) end bit end (now (discards .exit)) ⌝ }
+    ensures { λ _. ⌜ length (now (discards .exit)) ≡ 64 ⌝ }
 {
-    let mut out = discards;
     let mut set: usize = 0;
     while set < end {
-        out[end + set] = out[set] + bit;
+        discards[end + set] = discards[set] + bit;
         set += 1;
     }
-    out
 }
 
 // The discard bytes of all sets of the list, by their numbers: with each client the sets double.
@@ -48,8 +47,7 @@ pub(crate) fn discards(clients: [u8; 6], count: usize) -> [u8; 64]
     let mut discards = [0u8; 64];
     let mut j: usize = 0;
     while j < count {
-        let next = doubled(discards, 1 << j, 1 << (clients[j] - 1));
-        discards = next;
+        double(&mut discards, 1 << j, 1 << (clients[j] - 1));
         j += 1;
     }
     discards

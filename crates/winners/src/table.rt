@@ -3,9 +3,9 @@ use crate::lists;
 use book::layout;
 ghost use mathlib.Core.Path.{_≡_};
 ghost use mathlib.Core.Bool.{cond};
-ghost use Prim.Native.Nat.{_≤_};
+ghost use Prim.Native.Nat.{_^_, _≤_};
 ghost use lib.Dec.{eqb};
-ghost use lib.ListN.{replicate};
+ghost use lib.ListN.{length, replicate};
 ghost use Rattle.book.specs.Questions.{book-refusal};
 ghost use Rattle.winners.specs.Needs.{Differences};
 ghost use Rattle.winners.specs.Surpluses.{Surpluses-are};
@@ -17,20 +17,19 @@ pub struct SigmaTable {
     pub sigma: [u64; 64],
 }
 
-// σ by set number, from the values without each set.
-fn sigma_of(count: usize, values: [u64; 64]) -> [u64; 64]
+// σ by set number, in place of the values without each set.
+fn to_sigma(count: usize, values: &mut [u64; 64])
     requires { ⌜ count ≤ 6 ⌝ }
-    ensures { λ r. ⌜ Differences values count r ⌝ }
+    requires { ⌜ length (now values) ≡ 64 ⌝ }
+    ensures { λ _. ⌜ Differences (now (values .entry)) (2 ^ count) (now (values .exit)) ⌝ }
 {
-    let end: usize = 1 << count;
+    let end = numbers::smaller(1 << count, 64);
     let v = values[0];
-    let mut sigma = [0u64; 64];
     let mut set: usize = 0;
     while set < end {
-        sigma[set] = numbers::excess(v, values[set]);
+        values[set] = numbers::excess(v, values[set]);
         set += 1;
     }
-    sigma
 }
 
 // A refusal has its number and zeros.
@@ -61,7 +60,7 @@ pub fn surpluses(book: &[u8], clients: [u8; 6], count: usize) -> SigmaTable
     if !lists::is_rising(clients, count, 6) {
         return refused(unlisted(book));
     }
-    let found = values::values_of(book, lists::discards(clients, count), 1 << count);
+    let mut found = values::values_of(book, lists::discards(clients, count), 1 << count);
     if 0 < found.number {
         return refused(found.number);
     }
@@ -69,11 +68,12 @@ pub fn surpluses(book: &[u8], clients: [u8; 6], count: usize) -> SigmaTable
     if !lists::is_rising(clients, count, n) {
         return refused(16);
     }
-    let values = found.values;
-    let sigma = sigma_of(count, values);
+    let value = found.values[0];
+    to_sigma(count, &mut found.values);
+    let sigma = found.values;
     SigmaTable {
         number: 0,
-        value: values[0],
+        value,
         sigma,
     }
 }

@@ -11,7 +11,6 @@ use lib.ListN.{getD}
 use Rattle.market.specs.Market.{Market, less}
 use Rattle.market.specs.Greatest.{choose}
 use Rattle.market.proofs.Bools.{and-parts}
-use Rattle.lanes.proofs.Laws.{guards-kept}
 use Rattle.values.specs.Needs.{Left, Head, Looked, weight-in}
 use Rattle.values.proofs.Hours.{fit-here, left-after}
 use Rattle.values.proofs.Ceilings.{owned-inside, ceiling-left, few-fits, raised-few, some-left}
@@ -49,18 +48,18 @@ told t = (
 )
 
 -- what is found among the first i bids, in a market that is laid out
-abbrev Found : (ahead left floor : ℕ) → (looks : List ℕ) → (top i : ℕ) → Type 0
-Found ahead left floor looks top i =
-    (m : Market) (k : ℕ) (ls : List ℕ) → Looked m k looks → Left k ls left → top ≡ choose m (weight-in looks) i (7 - ahead) ls floor (reached m (weight-in looks) ahead)
+abbrev Found : (ahead used floor : ℕ) → (looks : List ℕ) → (top i : ℕ) → Type 0
+Found ahead used floor looks top i =
+    (m : Market) (k : ℕ) (ls : List ℕ) → Looked m k looks → Left k ls used → top ≡ choose m (weight-in looks) i (7 - ahead) ls floor (reached m (weight-in looks) ahead)
 
 abbrev Own : (ahead : ℕ) → (looks : List ℕ) → (i : ℕ) → Type 0
 Own ahead looks i = (m : Market) (k : ℕ) → Looked m k looks → At-own m (7 - ahead) i
 
 abbrev Inv-loop : lts.InvT-loop
-Inv-loop ahead left floor looks most fewer rest top₀ i₀ top i = (top ≤ max floor (ahead * 4294967295)) × Own ahead looks i × Found ahead left floor looks top i
+Inv-loop ahead used floor looks most fewer rest top₀ i₀ top i = (top ≤ max floor (ahead * 4294967295)) × Own ahead looks i × Found ahead used floor looks top i
 
 abbrev μ-loop : lts.MeasureT-loop
-μ-loop ahead left floor looks most fewer rest top₀ i₀ top i = 48 - i
+μ-loop ahead used floor looks most fewer rest top₀ i₀ top i = 48 - i
 
 returns : (t : ℕ) → lts.Need-returns (told t) (at-turn t) search-from.Post Inv-loop μ-loop
 returns t c =
@@ -87,10 +86,10 @@ loop-holds t c =
       (λ m k ls h l. chosen-first m (7 - a .ahead) ls (weight-in (a .looks .now)) (a .floor) _ _ (head m k h)),
     )
 
-sub-after : (t : ℕ) → lts.Need-sub-after (told t) (at-turn t) search-from.Post Inv-loop μ-loop
-sub-after t c =
+add-hours : (t : ℕ) → lts.Need-add-after-2 (told t) (at-turn t) search-from.Post Inv-loop μ-loop
+add-hours t c =
     let s = c .before .before .before .before .before .before .before .before .before in
-    omega (arith, s .pre .1 .0 .hours-few (c .before .before .before .loop .i) (c .before .before .loop-test .taken), s .pre .1 .1 .guards)
+    omega (arith, s .pre .1 .0 .hours-few (c .before .before .before .loop .i) (c .before .before .loop-test .taken), s .pre .1 .1 .used-few, s .pre .1 .1 .clients-few)
 
 add-may-raise : (t : ℕ) → lts.Need-add-may-raise (told t) (at-turn t) search-from.Post Inv-loop μ-loop
 add-may-raise t c =
@@ -104,9 +103,9 @@ search-from-requires t c κs =
     let a = s .args in
     let w = s .pre .1 .1 in
     let l = c .before .before .before .before .before .before .before .loop in
-    let fit = and-parts (ltb (l .top) (getD (a .looks .now) (l .i) 0 + getD (a .looks .now) (152 + (a .ahead - 1)) 0)) _ (sym (c .before .before .may-raise .ensures) ∙ c .before .if2 .taken) .1 in
-    let n = turn-next t (a .ahead) (a .left) (a .floor) _ (c .excess .result) (a .looks .now) (s .pre .0) (some t (c .before .before .before .before .before .before .before .before .before .before .before)) w
-    (omega (arith, c .excess .ensures, l .inv .0, w .floor-few, w .clients-few)) (guards-kept _ fit) in
+    let asked = s .pre .1 .0 .hours-few (l .i) (c .before .before .before .before .before .before .loop-test .taken) in
+    let n = turn-next t (a .ahead) (a .used) (a .floor) (a .used + getD (a .looks .now) (48 + l .i) 0) (c .excess .result) (a .looks .now) (s .pre .0) (some t (c .before .before .before .before .before .before .before .before .before .before .before)) w
+    (omega (arith, c .excess .ensures, l .inv .0, w .floor-few, w .clients-few)) (omega arith) in
     (n .0, (s .pre .1 .0, n .1))
 
 add-top : (t : ℕ) → lts.Need-add-top (told t) (at-turn t) search-from.Post Inv-loop μ-loop
@@ -135,9 +134,9 @@ own-next ahead looks i one inside own m k h =
     let at = own m k h in
     at-own-next m (7 - ahead) i _ inside at (h .linked i (omega arith) (owned-inside m (7 - ahead) i (h .owned) one (at .own inside)))
 
-found-next : (ahead left floor : ℕ) (looks : List ℕ) (now i : ℕ) → 1 ≤ 7 - ahead → i < 48 → Own ahead looks i → Found ahead left floor looks now (i + 1)
-    → Found ahead left floor looks now (getD looks (96 + i) 0)
-found-next ahead left floor looks now i one inside own found m k ls h l =
+found-next : (ahead used floor : ℕ) (looks : List ℕ) (now i : ℕ) → 1 ≤ 7 - ahead → i < 48 → Own ahead looks i → Found ahead used floor looks now (i + 1)
+    → Found ahead used floor looks now (getD looks (96 + i) 0)
+found-next ahead used floor looks now i one inside own found m k ls h l =
     let at = own m k h .own inside in
     chosen-next m (7 - ahead) ls (weight-in looks) floor _ i _ now at (h .linked i (omega arith) (owned-inside m (7 - ahead) i (h .owned) one at)) (found m k ls h l)
 
@@ -157,13 +156,13 @@ loop-again t c =
     let fitting = and-parts (ltb (l .top) (weight + next)) _ (sym raise ∙ c .before .before .if2 .taken) .1 in (
       raised-few (a .ahead) (a .floor) (l .top) weight (c .before .excess .result) (c .search-from .result) _ there (s .pre .1 .0 .weights-few (l .i) inside) refl (c .before .excess .ensures) (c .search-from .ensures .0) (l .inv .0),
       own-next (a .ahead) (a .looks .now) (l .i) one inside (l .inv .1),
-      found-next (a .ahead) (a .left) (a .floor) (a .looks .now) _ (l .i) one inside (l .inv .1)
+      found-next (a .ahead) (a .used) (a .floor) (a .looks .now) _ (l .i) one inside (l .inv .1)
           (λ m k ls h left. let at = l .inv .1 m k h in
           let asked = h .asked (l .i) (owned-inside m client (l .i) (h .owned) one (at .own inside)) in
-          let fit = fit-here k (m .hours (l .i + 1)) ls (getD (a .looks .now) (48 + l .i) 0) (a .left) asked left in
+          let fit = fit-here k (m .hours (l .i + 1)) ls (getD (a .looks .now) (48 + l .i) 0) (a .used) asked left in
           chosen-taken m client ls (weight-in (a .looks .now)) (a .floor) (reached m (weight-in (a .looks .now)) (a .ahead)) (l .i) (at .own inside) (at .able inside (l .i) (at .own inside)) (l .top) weight next _ _
           (l .inv .2 m k ls h left) (weight-at (a .looks .now) (l .i)) raise fit (c .before .excess .result) (c .search-from .result) _ fitting (c .before .excess .ensures)
-          (c .search-from .ensures .1 m k (less ls (m .hours (l .i + 1))) h (left-after k (m .hours (l .i + 1)) ls (getD (a .looks .now) (48 + l .i) 0) (a .left) asked left (sym fit ∙ fitting)))
+          (c .search-from .ensures .1 m k (less ls (m .hours (l .i + 1))) h (left-after k (m .hours (l .i + 1)) ls (getD (a .looks .now) (48 + l .i) 0) (a .used) asked left (sym fit ∙ fitting)))
           refl),
     )
 
@@ -180,10 +179,10 @@ loop-again-2 t c =
     let next = getD (a .looks .now) (152 + (a .ahead - 1)) 0 in (
       l .inv .0,
       own-next (a .ahead) (a .looks .now) (l .i) one inside (l .inv .1),
-      found-next (a .ahead) (a .left) (a .floor) (a .looks .now) _ (l .i) one inside (l .inv .1)
+      found-next (a .ahead) (a .used) (a .floor) (a .looks .now) _ (l .i) one inside (l .inv .1)
           (λ m k ls h left. let at = l .inv .1 m k h in
           let asked = h .asked (l .i) (owned-inside m client (l .i) (h .owned) one (at .own inside)) in
-          let fit = fit-here k (m .hours (l .i + 1)) ls (getD (a .looks .now) (48 + l .i) 0) (a .left) asked left in
+          let fit = fit-here k (m .hours (l .i + 1)) ls (getD (a .looks .now) (48 + l .i) 0) (a .used) asked left in
           chosen-left m client ls (weight-in (a .looks .now)) (a .floor) (reached m (weight-in (a .looks .now)) (a .ahead)) (l .i) (at .own inside) (at .able inside (l .i) (at .own inside)) (l .top) weight next _ _
           (l .inv .2 m k ls h left) (weight-at (a .looks .now) (l .i)) (c .before .may-raise .ensures) fit _ (c .if2 .left)
           (ceiling-left m (a .looks .now) (h .ceiling) (a .ahead - 1) (less ls (m .hours (l .i + 1))) fewer) refl),
@@ -194,8 +193,8 @@ search-from-requires-2 t c κs =
     let s = c .before .before .before .before .before .before .before in
     let a = s .args in
     let w = s .pre .1 .1 in
-    let n = turn-next t (a .ahead) (a .left) (a .floor) (a .left) (c .before .loop .top) (a .looks .now) (s .pre .0) (some t (c .before .before .before .before .before)) w
-    (omega (arith, c .before .loop .inv .0, w .floor-few, w .clients-few)) (w .guards) in
+    let n = turn-next t (a .ahead) (a .used) (a .floor) (a .used) (c .before .loop .top) (a .looks .now) (s .pre .0) (some t (c .before .before .before .before .before)) w
+    (omega (arith, c .before .loop .inv .0, w .floor-few, w .clients-few)) (omega arith) in
     (n .0, (s .pre .1 .0, n .1))
 
 returns-2 : (t : ℕ) → lts.Need-returns-2 (told t) (at-turn t) search-from.Post Inv-loop μ-loop
@@ -232,7 +231,7 @@ pub +search-from-spec : {M : Type 1} → statement M
     (λ c. search needs)
     (λ c. search needs)
     (λ c. search needs)
-    (sub-after t)
+    (add-hours t)
     (λ c. search needs)
     (λ c. search needs)
     (λ c. search needs)

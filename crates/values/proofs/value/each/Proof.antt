@@ -13,14 +13,16 @@ use Rattle.values.proofs.value.each.Statement.{statement}
 use Rattle.values.proofs.value.each.Tie as tie
 
 abbrev Inv-loop : tie.InvT-loop
-Inv-loop book count left looks₀ discards end values₀ j₀ looks values j =
+Inv-loop book count used looks₀ values₀ discards end j₀ looks values j =
     (j ≤ end) × (length discards ≡ 64) × Prepared book looks × Filled 64 (λ i. greatest (book-in book) (getD discards i 0)) j values
 
 abbrev μ-loop : tie.MeasureT-loop
-μ-loop book count left looks₀ discards end values₀ j₀ looks values j = end - j
+μ-loop book count used looks₀ values₀ discards end j₀ looks values j = end - j
 
 loop-holds : tie.Need-loop-holds Inv-loop μ-loop
-loop-holds c = (search needs, search needs, c .before .before .pre .1 .1, filled-none _ _)
+loop-holds c =
+    let p = c .before .before .pre in
+    (search needs, search needs, p .1 .1 .0, rw (p .1 .1 .1) (filled-none _ _))
 
 value-by-requires : tie.Need-value-by-requires Inv-loop μ-loop
 value-by-requires c κs =

@@ -1,7 +1,7 @@
 -- `values::value::value_by` meets its contract. Assumes nothing.
 use Rattle.book.specs.Book.{supplies}
 use Rattle.book.specs.Layout.{K-of, book-in}
-use Rattle.lanes.proofs.Laws.{guarded-least}
+use Rattle.lanes.proofs.Laws.{used-most}
 use Rattle.combinations.specs.Greatest.{without, discarded}
 use Rattle.values.proofs.Found.{turned-prepared, turned-turn, looked-sound, greatest-found}
 use Rattle.values.proofs.value.value_by.Statement.{statement}
@@ -14,7 +14,7 @@ search-from-requires : tie.Need-search-from-requires
 search-from-requires c κs =
     let p = c .before .before .before .before .pre in
     let turned = c .before .turn .ensures in
-    (turned-prepared _ _ _ _ (p .0) turned (p .1 .1) .ready, turned-turn _ _ _ _ turned (rw (p .1 .0 .guards) (guarded-least _)))
+    (turned-prepared _ _ _ _ (p .0) turned (p .1 .1) .ready, turned-turn _ _ _ _ turned (rw (p .1 .0 .lanes) (used-most _)))
 
 returns : tie.Need-returns
 returns c =

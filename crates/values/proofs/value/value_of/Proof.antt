@@ -12,7 +12,7 @@ returns c = value-refused _ _ _ (c .before .lay-out .ensures .numbered) (c .if1 
 value-by-requires : tie.Need-value-by-requires
 value-by-requires c κs =
     let e = c .before .before in
-    made-sound _ _ _ _ (λ i. omega (arith, e .before .shared-slice-known .given i)) (e .lay-out .ensures) (c .before .if1 .left)
+    made-sound _ _ _ _ _ (λ i. omega (arith, e .before .before .shared-slice-known .given i)) (e .lay-out .ensures) (c .before .if1 .left)
 
 returns-2 : tie.Need-returns-2
 returns-2 c = value-found _ _ _ _ (c .before .before .before .lay-out .ensures .numbered) (c .before .before .if1 .left) (c .value-by .ensures .0)

@@ -21,7 +21,7 @@ listed c =
     record { few = leb-true _ 6 few; rising = rises }
 
 -- the list rises to the book's clients
-good : (c : tie.Else3) → let a = c .before .before .before .before .before .before .before .before .before .before .args in list-good (a .book .now) (a .clients) (a .count) ≡ true
+good : (c : tie.Else3) → let a = c .before .before .before .before .before .before .before .before .before .args in list-good (a .book .now) (a .clients) (a .count) ≡ true
 unfolding list-good
 good c = (rw (c .before .before .clients .ensures) at (sym (c .before .is-rising2 .ensures))) ∙ not-false _ (c .if3 .left)
 
@@ -38,26 +38,27 @@ shl-values-of c = omega (arith, listed (c .before) .few)
 
 returns-2 : tie.Need-returns-2
 returns-2 c =
-    rw (c .refused2 .ensures .0, c .refused2 .ensures .1, c .refused2 .ensures .2) (surpluses-refused _ _ _ _ (c .before .before .before .values-of .ensures .numbered) (c .before .if2 .taken))
+    rw (c .refused2 .ensures .0, c .refused2 .ensures .1, c .refused2 .ensures .2) (surpluses-refused _ _ _ _ (c .before .before .values-of .ensures .numbered) (c .before .if2 .taken))
 
 returns-3 : tie.Need-returns-3
 unfolding list-good
 returns-3 c =
     rw (c .refused3 .ensures .0, c .refused3 .ensures .1, c .refused3 .ensures .2)
-    (surpluses-none _ _ _ (refusal-none (c .before .before .before .before .before .before .values-of .ensures .numbered) (c .before .before .before .before .if2 .left)) ((rw (c .before .before .before .clients .ensures) at (sym (c .before .before .is-rising2 .ensures))) ∙ not-true _ (c .before .if3 .taken)))
+    (surpluses-none _ _ _ (refusal-none (c .before .before .before .before .before .values-of .ensures .numbered) (c .before .before .before .before .if2 .left)) ((rw (c .before .before .before .clients .ensures) at (sym (c .before .before .is-rising2 .ensures))) ∙ not-true _ (c .before .if3 .taken)))
 
-sigma-of-requires : tie.Need-sigma-of-requires
-sigma-of-requires c κs = listed (c .before .before .before .before .before .before .before .before) .few
+to-sigma-requires : tie.Need-to-sigma-requires
+to-sigma-requires c κs = (listed (c .before .before .before .before .before .before .before .before) .few, search needs)
 
 returns-4 : tie.Need-returns-4
 returns-4 c =
-    let rises = listed (c .before .before .before .before .before .before .before .before .before) in
-    let found = c .before .before .before .before .before .before .before .values-of .ensures in
-    let zero = refusal-none (found .numbered) (c .before .before .before .before .before .if2 .left) in
+    let rises = listed (c .before .before .before .before .before .before .before .before .before .before) in
+    let found = c .before .before .before .before .before .before .before .before .values-of .ensures in
+    let zero = refusal-none (found .numbered) (c .before .before .before .before .before .before .before .if2 .left) in
     let made = rw zero at (found .valued) in
-    let discards = c .before .before .before .before .before .before .before .before .discards .ensures in
+    let discards = c .before .before .before .before .before .before .before .before .before .discards .ensures in
     let sets = shl-one _ (rises .few) .0 in
-    surpluses-found _ _ _ _ _ zero (good (c .before .before)) (value-all _ _ _ _ _ _ rises discards sets made) (table-done _ _ _ _ _ _ rises discards sets made _ (c .sigma-of .ensures))
+    surpluses-found _ _ _ _ _ zero (good (c .before .before .before .before)) (value-all _ _ _ _ _ _ rises discards sets made)
+    (table-done _ _ _ _ _ _ rises discards sets made _ (c .before .to-sigma .ensures))
 
 pub surpluses-spec : {M : Type 1} → statement M
 surpluses-spec =
@@ -77,6 +78,6 @@ surpluses-spec =
     (λ c κs. search needs)
     (λ c κs. search needs)
     returns-3
-    sigma-of-requires
     (λ c. search needs)
+    to-sigma-requires
     returns-4)
