@@ -52,7 +52,7 @@ fn look_up(book: &[u8], k: usize, m: usize, from: usize, looks: &mut [u64; 166])
 }
 
 // The first bid of a client that counts, and of one that does not none: 48.
-pub fn first_own(on: bool, first: u64) -> u64
+fn first_own(on: bool, first: u64) -> u64
     ensures { λ r. ⌜ r ≡ cond on first 48 ⌝ }
 {
     if on { first } else { 48 }

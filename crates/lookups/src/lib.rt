@@ -1,12 +1,11 @@
 // Layer 2: what the search for greatest values looks up in a book, whoever is discarded.
 //
 // What a client may cite: `lay_out`, which takes any bytes, asks nothing of its caller, and whose contract gives every field of its answer,
-// and what becomes of the array that it is lent, as a value (specs/Looks.antt); `first_own`, likewise; and the law of proofs/Preparing.antt, that the array lays out a sound book's market
-// (specs/Prepared.antt).
+// and what becomes of the array that it is lent, as a value (specs/Looks.antt); and the law of proofs/Preparing.antt, that the array of a
+// sound book lays out its market (specs/Prepared.antt).
 mod array;
 mod places;
 
-pub use array::first_own;
 ghost use Rattle.lookups.specs.Looks.{Looks-are};
 
 // 0, or the number of the question that refuses the book; the hours used before any bid is taken, as a number of crates/lanes. Zero after a

@@ -43,7 +43,10 @@ pub(crate) fn search_from(ahead: usize, used: u64, floor: u64, looks: &[u64; 166
     let fewer = ahead - 1;
     let rest = looks[152 + fewer];
     let mut top = floor;
-    let mut i = lookups::first_own(rest < most, looks[144 + ahead]) as usize;
+    let mut i: usize = 48;
+    if rest < most {
+        i = looks[144 + ahead] as usize;
+    }
     while i < 48 {
         let weight = looks[i];
         let after = used + looks[48 + i];

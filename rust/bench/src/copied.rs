@@ -5,6 +5,8 @@ use crate::shape::Shape;
 
 const NONE: u64 = 48;
 const GUARDS: u64 = 0x0100_0100_0100_0100;
+/// Every lane at 255: nothing is left.
+const FULL: u64 = 0x00ff_00ff_00ff_00ff;
 
 /// What the search looks up. Clients are numbered by how many there are from each to the sixth: the turns left.
 type Looks = [u64; 166];
@@ -53,7 +55,7 @@ fn turn(discard: u8, looks: &mut Looks) {
     }
 }
 
-fn search(looks: &Looks, ahead: usize, left: u64, floor: u64) -> u64 {
+fn search(looks: &Looks, ahead: usize, used: u64, floor: u64) -> u64 {
     let most = looks[TOPS + ahead];
     if most <= floor {
         return floor;
@@ -64,23 +66,23 @@ fn search(looks: &Looks, ahead: usize, left: u64, floor: u64) -> u64 {
     while i < NONE {
         let bid = i as usize;
         let weight = looks[bid];
-        let after = left - looks[HOURS + bid];
+        let after = used + looks[HOURS + bid];
         i = looks[LINKS + bid];
-        if top < weight + rest && after & GUARDS == GUARDS {
+        if top < weight + rest && after & GUARDS == 0 {
             top = weight + search(looks, ahead - 1, after, top.saturating_sub(weight));
         }
     }
-    search(looks, ahead - 1, left, top)
+    search(looks, ahead - 1, used, top)
 }
 
 /// The greatest values with each of the sets of clients discarded, looked up once.
 pub fn greatest_of(shape: &Shape, discards: impl Iterator<Item = u8>) -> [u64; 64] {
     let mut looks = look_up(shape);
-    let left = in_lanes(&shape.supply()) + GUARDS;
+    let used = FULL - in_lanes(&shape.supply());
     let mut values = [0; 64];
     for (value, discard) in values.iter_mut().zip(discards) {
         turn(discard, &mut looks);
-        *value = search(&looks, 6, left, 0);
+        *value = search(&looks, 6, used, 0);
     }
     values
 }

@@ -7,7 +7,7 @@ use crate::{branch, copied, plain, questions, search};
 use std::hint::black_box;
 
 /// How many books of a kind a turn goes through: so many that a processor cannot learn their branches by heart.
-const MANY: u64 = 16;
+const MANY: u64 = 64;
 /// How many where a program takes much longer than ours.
 const FEW: u64 = 2;
 

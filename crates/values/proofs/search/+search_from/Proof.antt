@@ -3,9 +3,12 @@
 use borrow.Author.Needs.{needs}
 use mathlib.Core.Path.{_≡_, refl, sym, _∙_}
 use mathlib.Core.List.{List}
+use mathlib.Core.Logic.{⊎-elim}
+use mathlib.Core.Bool.{cond}
 use Prim.Native.Nat.{ℕ, _+_, _*_, _-_, _≤_, _<_, max}
 use native.Mathlib.Nat.{le-trans, max-eq-left}
 use native.Mathlib.Omega.{arith}
+use borrow.Author.Tests.{lt-ltb, le-ltb}
 use lib.Dec.{ltb}
 use lib.ListN.{getD}
 use Rattle.market.specs.Market.{Market, less}
@@ -20,7 +23,6 @@ use borrow.Fn.PlainCycle.{Measures, is, falls, and}
 use Rattle.values.proofs.search.search_from.Reads as search-from
 use Rattle.values.proofs.search.search_from.Kinds as search-from-kinds
 use Rattle.values.proofs.search.+search_from.Lts-search_from as lts
-use Rattle.lookups.proofs.first_own.Reads as first-own-reads
 use Rattle.numbers.proofs.excess.Reads as excess-reads
 use Rattle.values.proofs.search.may_raise.Reads as may-raise-reads
 use Rattle.values.proofs.search.+search_from.{statement}
@@ -37,8 +39,6 @@ below-turn t = and 1 search-from-kinds.ps (falls 1 search-from-kinds.ps _<_ μ-s
 
 abbrev told : ℕ → lts.Claims
 told t = (
-  first-own-reads.Asked,
-  first-own-reads.Learnt,
   may-raise-reads.Asked,
   may-raise-reads.Learnt,
   excess-reads.Asked,
@@ -71,16 +71,21 @@ returns t c =
 some : (t : ℕ) (c : lts.Else1 (told t) (at-turn t) search-from.Post Inv-loop μ-loop) → 0 < c .before .before .args .ahead
 some t c = some-left (c .before .before .args .ahead) (c .before .before .args .floor) (c .before .before .args .looks .now) (c .before .before .pre .1 .1 .bottom) (c .if1 .left)
 
+-- the client's first bid, or none where its ceiling is not above the next one's
+starts : (t : ℕ) (c : lts.Joined2 (told t) (at-turn t) search-from.Post Inv-loop μ-loop) → let a = c .before .before .before .before .args in
+    c .if2 .i ≡ cond (ltb (getD (a .looks .now) (152 + (a .ahead - 1)) 0) (getD (a .looks .now) (152 + a .ahead) 0)) (getD (a .looks .now) (144 + a .ahead) 0) 48
+starts t c = ⊎-elim (λ w. w .2 ∙ rw (lt-ltb _ _ (w .0 .taken))) (λ w. w .1 ∙ rw (le-ltb _ _ (w .0 .left))) (c .if2 .came)
+
 loop-holds : (t : ℕ) → lts.Need-loop-holds (told t) (at-turn t) search-from.Post Inv-loop μ-loop
 loop-holds t c =
-    let s = c .before .before .before .before .before in
+    let s = c .before .before .before .before in
     let a = s .args in
-    let one = some t (c .before .before .before) in
+    let one = some t (c .before .before) in
     let most = s .pre .1 .1 .clients-few in
     let back : 7 - (7 - a .ahead) ≡ a .ahead = omega arith in
     let next : 6 - (7 - a .ahead) ≡ a .ahead - 1 = omega arith in
-    let head : (m : Market) (k : ℕ) → Looked m k (a .looks .now) → Head m (7 - a .ahead) (c .first-own .result)
-    = λ m k h. rw (c .first-own .ensures) (rw (next, back) at (h .headed (7 - a .ahead) (omega arith) (omega arith))) in (
+    let head : (m : Market) (k : ℕ) → Looked m k (a .looks .now) → Head m (7 - a .ahead) (c .if2 .i)
+    = λ m k h. rw (starts t c) (rw (next, back) at (h .headed (7 - a .ahead) (omega arith) (omega arith))) in (
       omega arith,
       (λ m k h. at-own-first m (7 - a .ahead) _ (head m k h)),
       (λ m k ls h l. chosen-first m (7 - a .ahead) ls (weight-in (a .looks .now)) (a .floor) _ _ (head m k h)),
@@ -89,12 +94,12 @@ loop-holds t c =
 add-hours : (t : ℕ) → lts.Need-add-after-2 (told t) (at-turn t) search-from.Post Inv-loop μ-loop
 add-hours t c =
     let s = c .before .before .before .before .before .before .before .before .before in
-    omega (arith, s .pre .1 .0 .hours-few (c .before .before .before .loop .i) (c .before .before .loop-test .taken), s .pre .1 .1 .used-few, s .pre .1 .1 .clients-few)
+    omega (arith, s .pre .1 .0 .hours-few (c .before .before .before .before .loop .i) (c .before .before .before .loop-test .taken), s .pre .1 .1 .used-few, s .pre .1 .1 .clients-few)
 
 add-may-raise : (t : ℕ) → lts.Need-add-may-raise (told t) (at-turn t) search-from.Post Inv-loop μ-loop
 add-may-raise t c =
     let s = c .before .before .before .before .before .before .before .before .before .before in
-    few-fits _ _ (s .pre .1 .0 .weights-few (c .before .before .before .before .loop .i) (c .before .before .before .loop-test .taken))
+    few-fits _ _ (s .pre .1 .0 .weights-few (c .before .before .before .before .before .loop .i) (c .before .before .before .before .loop-test .taken))
     (s .pre .1 .1 .tops-few (s .args .ahead - 1) (omega (arith, s .pre .1 .1 .clients-few)))
 
 search-from-requires : (t : ℕ) → lts.Need-search-from-requires (told t) (at-turn t) search-from.Post Inv-loop μ-loop
@@ -102,8 +107,8 @@ search-from-requires t c κs =
     let s = c .before .before .before .before .before .before .before .before .before .before .before .before .before in
     let a = s .args in
     let w = s .pre .1 .1 in
-    let l = c .before .before .before .before .before .before .before .loop in
-    let asked = s .pre .1 .0 .hours-few (l .i) (c .before .before .before .before .before .before .loop-test .taken) in
+    let l = c .before .before .before .before .before .before .before .before .loop in
+    let asked = s .pre .1 .0 .hours-few (l .i) (c .before .before .before .before .before .before .before .loop-test .taken) in
     let n = turn-next t (a .ahead) (a .used) (a .floor) (a .used + getD (a .looks .now) (48 + l .i) 0) (c .excess .result) (a .looks .now) (s .pre .0) (some t (c .before .before .before .before .before .before .before .before .before .before .before)) w
     (omega (arith, c .excess .ensures, l .inv .0, w .floor-few, w .clients-few)) (omega arith) in
     (n .0, (s .pre .1 .0, n .1))
@@ -112,20 +117,20 @@ add-top : (t : ℕ) → lts.Need-add-top (told t) (at-turn t) search-from.Post I
 add-top t c =
     let s = c .before .before .before .before .before .before .before .before .before .before .before .before .before .before in
     let w = s .pre .1 .1 in
-    let l = c .before .before .before .before .before .before .before .before .loop in
-    few-fits _ _ (s .pre .1 .0 .weights-few (l .i) (c .before .before .before .before .before .before .before .loop-test .taken))
+    let l = c .before .before .before .before .before .before .before .before .before .loop in
+    few-fits _ _ (s .pre .1 .0 .weights-few (l .i) (c .before .before .before .before .before .before .before .before .loop-test .taken))
     (omega (arith, c .search-from .ensures .0, c .before .excess .ensures, l .inv .0, w .floor-few, w .clients-few))
 
 loop-less : (t : ℕ) → lts.Need-loop-less (told t) (at-turn t) search-from.Post Inv-loop μ-loop
 loop-less t c =
-    let l = c .before .before .before .before .before .before .before .before .loop in
-    let inside = c .before .before .before .before .before .before .before .loop-test .taken in
+    let l = c .before .before .before .before .before .before .before .before .before .loop in
+    let inside = c .before .before .before .before .before .before .before .before .loop-test .taken in
     omega (arith, inside, c .before .before .before .before .before .before .before .before .before .before .before .before .before .before .pre .1 .0 .rises (l .i) inside)
 
 loop-less-2 : (t : ℕ) → lts.Need-loop-less-2 (told t) (at-turn t) search-from.Post Inv-loop μ-loop
 loop-less-2 t c =
-    let l = c .before .before .before .before .before .before .loop in
-    let inside = c .before .before .before .before .before .loop-test .taken in
+    let l = c .before .before .before .before .before .before .before .loop in
+    let inside = c .before .before .before .before .before .before .loop-test .taken in
     omega (arith, inside, c .before .before .before .before .before .before .before .before .before .before .before .before .pre .1 .0 .rises (l .i) inside)
 
 -- the next bid is the client's own, and the choice among the bids before it is that among one bid more
@@ -142,18 +147,18 @@ found-next ahead used floor looks now i one inside own found m k ls h l =
 
 loop-again : (t : ℕ) → lts.Need-loop-again (told t) (at-turn t) search-from.Post Inv-loop μ-loop
 loop-again t c =
-    let l = c .before .before .before .before .before .before .before .before .loop in
+    let l = c .before .before .before .before .before .before .before .before .before .loop in
     let s = c .before .before .before .before .before .before .before .before .before .before .before .before .before .before in
     let a = s .args in
     let w = s .pre .1 .1 in
     let client = 7 - a .ahead in
     let one : 1 ≤ client = omega (arith, w .clients-few) in
-    let inside = c .before .before .before .before .before .before .before .loop-test .taken in
+    let inside = c .before .before .before .before .before .before .before .before .loop-test .taken in
     let there = some t (c .before .before .before .before .before .before .before .before .before .before .before .before) in
     let raise = c .before .before .before .may-raise .ensures in
     let weight = getD (a .looks .now) (l .i) 0 in
     let next = getD (a .looks .now) (152 + (a .ahead - 1)) 0 in
-    let fitting = and-parts (ltb (l .top) (weight + next)) _ (sym raise ∙ c .before .before .if2 .taken) .1 in (
+    let fitting = and-parts (ltb (l .top) (weight + next)) _ (sym raise ∙ c .before .before .if3 .taken) .1 in (
       raised-few (a .ahead) (a .floor) (l .top) weight (c .before .excess .result) (c .search-from .result) _ there (s .pre .1 .0 .weights-few (l .i) inside) refl (c .before .excess .ensures) (c .search-from .ensures .0) (l .inv .0),
       own-next (a .ahead) (a .looks .now) (l .i) one inside (l .inv .1),
       found-next (a .ahead) (a .used) (a .floor) (a .looks .now) _ (l .i) one inside (l .inv .1)
@@ -168,12 +173,12 @@ loop-again t c =
 
 loop-again-2 : (t : ℕ) → lts.Need-loop-again-2 (told t) (at-turn t) search-from.Post Inv-loop μ-loop
 loop-again-2 t c =
-    let l = c .before .before .before .before .before .before .loop in
+    let l = c .before .before .before .before .before .before .before .loop in
     let s = c .before .before .before .before .before .before .before .before .before .before .before .before in
     let a = s .args in
     let client = 7 - a .ahead in
     let one : 1 ≤ client = omega (arith, s .pre .1 .1 .clients-few) in
-    let inside = c .before .before .before .before .before .loop-test .taken in
+    let inside = c .before .before .before .before .before .before .loop-test .taken in
     let fewer : a .ahead - 1 ≤ 6 = omega (arith, s .pre .1 .1 .clients-few) in
     let weight = getD (a .looks .now) (l .i) 0 in
     let next = getD (a .looks .now) (152 + (a .ahead - 1)) 0 in (
@@ -184,26 +189,26 @@ loop-again-2 t c =
           let asked = h .asked (l .i) (owned-inside m client (l .i) (h .owned) one (at .own inside)) in
           let fit = fit-here k (m .hours (l .i + 1)) ls (getD (a .looks .now) (48 + l .i) 0) (a .used) asked left in
           chosen-left m client ls (weight-in (a .looks .now)) (a .floor) (reached m (weight-in (a .looks .now)) (a .ahead)) (l .i) (at .own inside) (at .able inside (l .i) (at .own inside)) (l .top) weight next _ _
-          (l .inv .2 m k ls h left) (weight-at (a .looks .now) (l .i)) (c .before .may-raise .ensures) fit _ (c .if2 .left)
+          (l .inv .2 m k ls h left) (weight-at (a .looks .now) (l .i)) (c .before .may-raise .ensures) fit _ (c .if3 .left)
           (ceiling-left m (a .looks .now) (h .ceiling) (a .ahead - 1) (less ls (m .hours (l .i + 1))) fewer) refl),
     )
 
 search-from-requires-2 : (t : ℕ) → lts.Need-search-from-requires-2 (told t) (at-turn t) search-from.Post Inv-loop μ-loop
 search-from-requires-2 t c κs =
-    let s = c .before .before .before .before .before .before .before in
+    let s = c .before .before .before .before .before .before in
     let a = s .args in
     let w = s .pre .1 .1 in
-    let n = turn-next t (a .ahead) (a .used) (a .floor) (a .used) (c .before .loop .top) (a .looks .now) (s .pre .0) (some t (c .before .before .before .before .before)) w
+    let n = turn-next t (a .ahead) (a .used) (a .floor) (a .used) (c .before .loop .top) (a .looks .now) (s .pre .0) (some t (c .before .before .before .before)) w
     (omega (arith, c .before .loop .inv .0, w .floor-few, w .clients-few)) (omega arith) in
     (n .0, (s .pre .1 .0, n .1))
 
 returns-2 : (t : ℕ) → lts.Need-returns-2 (told t) (at-turn t) search-from.Post Inv-loop μ-loop
 returns-2 t c =
-    let s = c .before .before .before .before .before .before .before .before in
+    let s = c .before .before .before .before .before .before .before in
     let a = s .args in
     let l = c .before .before .loop in (
       omega (arith, c .search-from2 .ensures .0, l .inv .0),
-      λ m k ls h left. search-done m (weight-in (a .looks .now)) (a .ahead) ls (a .floor) (l .top) (l .i) _ (some t (c .before .before .before .before .before .before)) (s .pre .1 .1 .clients-few) (h .owned)
+      λ m k ls h left. search-done m (weight-in (a .looks .now)) (a .ahead) ls (a .floor) (l .top) (l .i) _ (some t (c .before .before .before .before .before)) (s .pre .1 .1 .clients-few) (h .owned)
           (c .before .loop-test .left) (l .inv .2 m k ls h left) (c .search-from2 .ensures .1 m k ls h left),
     )
 
@@ -221,10 +226,9 @@ pub +search-from-spec : {M : Type 1} → statement M
     (λ c. omega (arith, c .before .before .pre .1 .1 .clients-few))
     (λ c. omega (arith, c .before .before .pre .1 .1 .clients-few))
     (λ c. omega (arith, c .before .before .pre .1 .1 .clients-few))
-    (λ c. omega (arith, c .before .before .before .pre .1 .1 .clients-few))
-    (λ c. omega (arith, c .before .before .before .pre .1 .1 .clients-few))
-    (λ c. omega (arith, c .before .before .before .pre .1 .1 .clients-few))
-    (λ c κs. search needs)
+    (λ c. omega (arith, c .before .before .before .before .pre .1 .1 .clients-few))
+    (λ c. omega (arith, c .before .before .before .before .pre .1 .1 .clients-few))
+    (λ c. omega (arith, c .before .before .before .before .pre .1 .1 .clients-few))
     (loop-holds t)
     (λ c. search needs)
     (λ c. search needs)
