@@ -9,7 +9,7 @@ use certifier::Prices;
 use std::hint::black_box;
 
 /// In how many forms a call is judged.
-const FORMS: u64 = 8;
+const FORMS: u64 = 64;
 
 /// Our time for judging calls over that of the program in Rust; both must answer alike, with this number.
 fn ratio(what: &str, inputs: &[Vec<u8>], number: u32) -> f64 {

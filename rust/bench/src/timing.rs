@@ -6,8 +6,8 @@ use std::time::{Duration, Instant};
 
 /// A turn is short, so that few are broken into by other work on the machine.
 const TURN: Duration = Duration::from_micros(400);
-/// What the rounds may take for each work.
-const BUDGET: Duration = Duration::from_millis(70);
+/// What some rounds may take for each work.
+const BUDGET: Duration = Duration::from_millis(25);
 
 /// A piece of work: done so many times, it gives the time that took.
 pub type Work<'a> = Box<dyn Fn(u32) -> Duration + 'a>;
@@ -42,23 +42,31 @@ fn times_in_turn(work: &Work) -> u32 {
 }
 
 /// The time of doing each work once, round after round.
+#[derive(Default)]
 pub struct Rounds(Vec<Vec<f64>>);
 
 impl Rounds {
-    /// At least twelve rounds, however long the works are. Before each turn the work has one that does not count: else a work would gain
-    /// where the one before it runs the same code, of which the processor has then learnt the branches.
     pub fn of(works: &[Work]) -> Rounds {
+        let mut rounds = Rounds::default();
+        for _ in 0..3 {
+            rounds.go_on(works);
+        }
+        rounds
+    }
+
+    /// Some rounds more, at least four, however long the works are. Before each turn the work has one that does not count: else a work would
+    /// gain where the one before it runs the same code, of which the processor has then learnt the branches.
+    pub fn go_on(&mut self, works: &[Work]) {
         let times: Vec<u32> = works.iter().map(times_in_turn).collect();
         let once = |(work, &times): (&Work, &u32)| {
             work(times);
             work(times).as_secs_f64() / f64::from(times)
         };
         let start = Instant::now();
-        let mut rounds = Vec::new();
-        while rounds.len() < 12 || start.elapsed() < BUDGET * works.len() as u32 {
-            rounds.push(works.iter().zip(&times).map(once).collect());
+        let before = self.0.len();
+        while self.0.len() < before + 4 || start.elapsed() < BUDGET * works.len() as u32 {
+            self.0.push(works.iter().zip(&times).map(once).collect());
         }
-        Rounds(rounds)
     }
 
     /// The lower quartile of a work's times: neither the turns that were broken into nor the luckiest one.

@@ -10,6 +10,8 @@ use std::hint::black_box;
 const MANY: u64 = 64;
 /// How many where a program takes much longer than ours.
 const FEW: u64 = 2;
+/// How often the kinds take their turn, so that what else the machine does for a second or two does not fall on one of them.
+const PASSES: u32 = 4;
 
 fn all_sets(value: impl Fn(u8) -> u64) -> u64 {
     (0..64).map(value).sum()
@@ -54,13 +56,6 @@ fn assert_alike(name: &str, books: &[Vec<u8>], ways: &[fn(&[u8]) -> u64]) {
     }
 }
 
-/// Rounds of each way over all the books.
-fn rounds(books: &[Vec<u8>], ways: &[fn(&[u8]) -> u64]) -> Rounds {
-    let over_all = |&way: &fn(&[u8]) -> u64| work(move || books.iter().map(|book| way(book)).sum::<u64>()) as Work;
-    let works: Vec<Work> = ways.iter().map(over_all).collect();
-    Rounds::of(&works)
-}
-
 fn plainly(book: &[u8]) -> u64 {
     all_sets(|discard| plain::greatest_value(black_box(book), discard))
 }
@@ -69,18 +64,47 @@ fn by_branch(book: &[u8]) -> u64 {
     all_sets(|discard| branch::greatest_value(black_box(book), discard))
 }
 
-fn row(kind: &Kind) {
-    let ways = [ours, searched, asked, copied, ours_one_by_one, asked_one_by_one];
-    let slow = [ours, plainly, by_branch];
-    let (many, few) = (kind.books(MANY), kind.books(FEW));
-    assert_alike(kind.name, &many, &ways);
-    assert_alike(kind.name, &few, &slow);
-    let rounds_of_many = rounds(&many, &ways);
-    let rounds_of_few = rounds(&few, &slow);
-    let [search, asked, copied] = [1, 2, 3].map(|other| rounds_of_many.ratio(0, other));
-    let one_by_one = rounds_of_many.ratio(4, 5);
-    let [plain, branch] = [1, 2].map(|other| rounds_of_few.ratio(0, other));
-    println!("{:22}{plain:>10.4}{branch:>8.2}{search:>8.2}{asked:>8.2}{one_by_one:>12.2}{copied:>14.2}", kind.name);
+type Ways = &'static [fn(&[u8]) -> u64];
+
+const WAYS: Ways = &[ours, searched, asked, copied, ours_one_by_one, asked_one_by_one];
+const SLOW: Ways = &[ours, plainly, by_branch];
+
+/// Some rounds more of each way over all the books.
+fn go_on(rounds: &mut Rounds, books: &[Vec<u8>], ways: Ways) {
+    let over_all = |&way: &fn(&[u8]) -> u64| work(move || books.iter().map(|book| way(book)).sum::<u64>()) as Work;
+    let works: Vec<Work> = ways.iter().map(over_all).collect();
+    rounds.go_on(&works);
+}
+
+/// A kind of book, what is measured of it, and the times so far.
+struct Measured {
+    kind: Kind,
+    many: Vec<Vec<u8>>,
+    few: Vec<Vec<u8>>,
+    rounds_of_many: Rounds,
+    rounds_of_few: Rounds,
+}
+
+impl Measured {
+    /// Every way must answer alike.
+    fn of(kind: Kind) -> Measured {
+        let (many, few) = (kind.books(MANY), kind.books(FEW));
+        assert_alike(kind.name, &many, WAYS);
+        assert_alike(kind.name, &few, SLOW);
+        Measured { kind, many, few, rounds_of_many: Rounds::default(), rounds_of_few: Rounds::default() }
+    }
+
+    fn go_on(&mut self) {
+        go_on(&mut self.rounds_of_many, &self.many, WAYS);
+        go_on(&mut self.rounds_of_few, &self.few, SLOW);
+    }
+
+    fn print(&self) {
+        let [search, asked, copied] = [1, 2, 3].map(|other| self.rounds_of_many.ratio(0, other));
+        let one_by_one = self.rounds_of_many.ratio(4, 5);
+        let [plain, branch] = [1, 2].map(|other| self.rounds_of_few.ratio(0, other));
+        println!("{:22}{plain:>10.4}{branch:>8.2}{search:>8.2}{asked:>8.2}{one_by_one:>12.2}{copied:>14.2}", self.kind.name);
+    }
 }
 
 pub fn table() {
@@ -90,7 +114,9 @@ pub fn table() {
     println!();
     let [a, b, c, d, e, f] = ["plain", "branch", "search", "asked", "one by one", "line by line"];
     println!("{:22}{a:>10}{b:>8}{c:>8}{d:>8}{e:>12}{f:>14}", "kind of book");
-    for kind in KINDS {
-        row(&kind);
+    let mut kinds = KINDS.map(Measured::of);
+    for _ in 0..PASSES {
+        kinds.iter_mut().for_each(Measured::go_on);
     }
+    kinds.iter().for_each(Measured::print);
 }

@@ -91,15 +91,19 @@ loop-holds t c =
       (λ m k ls h l. chosen-first m (7 - a .ahead) ls (weight-in (a .looks .now)) (a .floor) _ _ (head m k h)),
     )
 
+-- a turn of the loop is at one of 48 bids
+inside : (t : ℕ) (c : lts.In-loop (told t) (at-turn t) search-from.Post Inv-loop μ-loop) → c .before .loop .i < 48
+inside t c = omega (arith, c .loop-test .taken)
+
 add-hours : (t : ℕ) → lts.Need-add-after-2 (told t) (at-turn t) search-from.Post Inv-loop μ-loop
 add-hours t c =
     let s = c .before .before .before .before .before .before .before .before .before in
-    omega (arith, s .pre .1 .0 .hours-few (c .before .before .before .before .loop .i) (c .before .before .before .loop-test .taken), s .pre .1 .1 .used-few, s .pre .1 .1 .clients-few)
+    omega (arith, s .pre .1 .0 .hours-few (c .before .before .before .before .loop .i) (inside t (c .before .before .before)), s .pre .1 .1 .used-few, s .pre .1 .1 .clients-few)
 
 add-may-raise : (t : ℕ) → lts.Need-add-may-raise (told t) (at-turn t) search-from.Post Inv-loop μ-loop
 add-may-raise t c =
     let s = c .before .before .before .before .before .before .before .before .before .before in
-    few-fits _ _ (s .pre .1 .0 .weights-few (c .before .before .before .before .before .loop .i) (c .before .before .before .before .loop-test .taken))
+    few-fits _ _ (s .pre .1 .0 .weights-few (c .before .before .before .before .before .loop .i) (inside t (c .before .before .before .before)))
     (s .pre .1 .1 .tops-few (s .args .ahead - 1) (omega (arith, s .pre .1 .1 .clients-few)))
 
 search-from-requires : (t : ℕ) → lts.Need-search-from-requires (told t) (at-turn t) search-from.Post Inv-loop μ-loop
@@ -108,7 +112,7 @@ search-from-requires t c κs =
     let a = s .args in
     let w = s .pre .1 .1 in
     let l = c .before .before .before .before .before .before .before .before .loop in
-    let asked = s .pre .1 .0 .hours-few (l .i) (c .before .before .before .before .before .before .before .loop-test .taken) in
+    let asked = s .pre .1 .0 .hours-few (l .i) (inside t (c .before .before .before .before .before .before .before)) in
     let n = turn-next t (a .ahead) (a .used) (a .floor) (a .used + getD (a .looks .now) (48 + l .i) 0) (c .excess .result) (a .looks .now) (s .pre .0) (some t (c .before .before .before .before .before .before .before .before .before .before .before)) w
     (omega (arith, c .excess .ensures, l .inv .0, w .floor-few, w .clients-few)) (omega arith) in
     (n .0, (s .pre .1 .0, n .1))
@@ -118,31 +122,31 @@ add-top t c =
     let s = c .before .before .before .before .before .before .before .before .before .before .before .before .before .before in
     let w = s .pre .1 .1 in
     let l = c .before .before .before .before .before .before .before .before .before .loop in
-    few-fits _ _ (s .pre .1 .0 .weights-few (l .i) (c .before .before .before .before .before .before .before .before .loop-test .taken))
+    few-fits _ _ (s .pre .1 .0 .weights-few (l .i) (inside t (c .before .before .before .before .before .before .before .before)))
     (omega (arith, c .search-from .ensures .0, c .before .excess .ensures, l .inv .0, w .floor-few, w .clients-few))
 
 loop-less : (t : ℕ) → lts.Need-loop-less (told t) (at-turn t) search-from.Post Inv-loop μ-loop
 loop-less t c =
     let l = c .before .before .before .before .before .before .before .before .before .loop in
-    let inside = c .before .before .before .before .before .before .before .before .loop-test .taken in
-    omega (arith, inside, c .before .before .before .before .before .before .before .before .before .before .before .before .before .before .pre .1 .0 .rises (l .i) inside)
+    let within = inside t (c .before .before .before .before .before .before .before .before) in
+    omega (arith, within, c .before .before .before .before .before .before .before .before .before .before .before .before .before .before .pre .1 .0 .rises (l .i) within)
 
 loop-less-2 : (t : ℕ) → lts.Need-loop-less-2 (told t) (at-turn t) search-from.Post Inv-loop μ-loop
 loop-less-2 t c =
     let l = c .before .before .before .before .before .before .before .loop in
-    let inside = c .before .before .before .before .before .before .loop-test .taken in
-    omega (arith, inside, c .before .before .before .before .before .before .before .before .before .before .before .before .pre .1 .0 .rises (l .i) inside)
+    let within = inside t (c .before .before .before .before .before .before) in
+    omega (arith, within, c .before .before .before .before .before .before .before .before .before .before .before .before .pre .1 .0 .rises (l .i) within)
 
 -- the next bid is the client's own, and the choice among the bids before it is that among one bid more
 own-next : (ahead : ℕ) (looks : List ℕ) (i : ℕ) → 1 ≤ 7 - ahead → i < 48 → Own ahead looks i → Own ahead looks (getD looks (96 + i) 0)
-own-next ahead looks i one inside own m k h =
+own-next ahead looks i one within own m k h =
     let at = own m k h in
-    at-own-next m (7 - ahead) i _ inside at (h .linked i (omega arith) (owned-inside m (7 - ahead) i (h .owned) one (at .own inside)))
+    at-own-next m (7 - ahead) i _ within at (h .linked i (omega arith) (owned-inside m (7 - ahead) i (h .owned) one (at .own within)))
 
 found-next : (ahead used floor : ℕ) (looks : List ℕ) (now i : ℕ) → 1 ≤ 7 - ahead → i < 48 → Own ahead looks i → Found ahead used floor looks now (i + 1)
     → Found ahead used floor looks now (getD looks (96 + i) 0)
-found-next ahead used floor looks now i one inside own found m k ls h l =
-    let at = own m k h .own inside in
+found-next ahead used floor looks now i one within own found m k ls h l =
+    let at = own m k h .own within in
     chosen-next m (7 - ahead) ls (weight-in looks) floor _ i _ now at (h .linked i (omega arith) (owned-inside m (7 - ahead) i (h .owned) one at)) (found m k ls h l)
 
 loop-again : (t : ℕ) → lts.Need-loop-again (told t) (at-turn t) search-from.Post Inv-loop μ-loop
@@ -153,19 +157,19 @@ loop-again t c =
     let w = s .pre .1 .1 in
     let client = 7 - a .ahead in
     let one : 1 ≤ client = omega (arith, w .clients-few) in
-    let inside = c .before .before .before .before .before .before .before .before .loop-test .taken in
+    let within = inside t (c .before .before .before .before .before .before .before .before) in
     let there = some t (c .before .before .before .before .before .before .before .before .before .before .before .before) in
     let raise = c .before .before .before .may-raise .ensures in
     let weight = getD (a .looks .now) (l .i) 0 in
     let next = getD (a .looks .now) (152 + (a .ahead - 1)) 0 in
     let fitting = and-parts (ltb (l .top) (weight + next)) _ (sym raise ∙ c .before .before .if3 .taken) .1 in (
-      raised-few (a .ahead) (a .floor) (l .top) weight (c .before .excess .result) (c .search-from .result) _ there (s .pre .1 .0 .weights-few (l .i) inside) refl (c .before .excess .ensures) (c .search-from .ensures .0) (l .inv .0),
-      own-next (a .ahead) (a .looks .now) (l .i) one inside (l .inv .1),
-      found-next (a .ahead) (a .used) (a .floor) (a .looks .now) _ (l .i) one inside (l .inv .1)
+      raised-few (a .ahead) (a .floor) (l .top) weight (c .before .excess .result) (c .search-from .result) _ there (s .pre .1 .0 .weights-few (l .i) within) refl (c .before .excess .ensures) (c .search-from .ensures .0) (l .inv .0),
+      own-next (a .ahead) (a .looks .now) (l .i) one within (l .inv .1),
+      found-next (a .ahead) (a .used) (a .floor) (a .looks .now) _ (l .i) one within (l .inv .1)
           (λ m k ls h left. let at = l .inv .1 m k h in
-          let asked = h .asked (l .i) (owned-inside m client (l .i) (h .owned) one (at .own inside)) in
+          let asked = h .asked (l .i) (owned-inside m client (l .i) (h .owned) one (at .own within)) in
           let fit = fit-here k (m .hours (l .i + 1)) ls (getD (a .looks .now) (48 + l .i) 0) (a .used) asked left in
-          chosen-taken m client ls (weight-in (a .looks .now)) (a .floor) (reached m (weight-in (a .looks .now)) (a .ahead)) (l .i) (at .own inside) (at .able inside (l .i) (at .own inside)) (l .top) weight next _ _
+          chosen-taken m client ls (weight-in (a .looks .now)) (a .floor) (reached m (weight-in (a .looks .now)) (a .ahead)) (l .i) (at .own within) (at .able within (l .i) (at .own within)) (l .top) weight next _ _
           (l .inv .2 m k ls h left) (weight-at (a .looks .now) (l .i)) raise fit (c .before .excess .result) (c .search-from .result) _ fitting (c .before .excess .ensures)
           (c .search-from .ensures .1 m k (less ls (m .hours (l .i + 1))) h (left-after k (m .hours (l .i + 1)) ls (getD (a .looks .now) (48 + l .i) 0) (a .used) asked left (sym fit ∙ fitting)))
           refl),
@@ -178,17 +182,17 @@ loop-again-2 t c =
     let a = s .args in
     let client = 7 - a .ahead in
     let one : 1 ≤ client = omega (arith, s .pre .1 .1 .clients-few) in
-    let inside = c .before .before .before .before .before .before .loop-test .taken in
+    let within = inside t (c .before .before .before .before .before .before) in
     let fewer : a .ahead - 1 ≤ 6 = omega (arith, s .pre .1 .1 .clients-few) in
     let weight = getD (a .looks .now) (l .i) 0 in
     let next = getD (a .looks .now) (152 + (a .ahead - 1)) 0 in (
       l .inv .0,
-      own-next (a .ahead) (a .looks .now) (l .i) one inside (l .inv .1),
-      found-next (a .ahead) (a .used) (a .floor) (a .looks .now) _ (l .i) one inside (l .inv .1)
+      own-next (a .ahead) (a .looks .now) (l .i) one within (l .inv .1),
+      found-next (a .ahead) (a .used) (a .floor) (a .looks .now) _ (l .i) one within (l .inv .1)
           (λ m k ls h left. let at = l .inv .1 m k h in
-          let asked = h .asked (l .i) (owned-inside m client (l .i) (h .owned) one (at .own inside)) in
+          let asked = h .asked (l .i) (owned-inside m client (l .i) (h .owned) one (at .own within)) in
           let fit = fit-here k (m .hours (l .i + 1)) ls (getD (a .looks .now) (48 + l .i) 0) (a .used) asked left in
-          chosen-left m client ls (weight-in (a .looks .now)) (a .floor) (reached m (weight-in (a .looks .now)) (a .ahead)) (l .i) (at .own inside) (at .able inside (l .i) (at .own inside)) (l .top) weight next _ _
+          chosen-left m client ls (weight-in (a .looks .now)) (a .floor) (reached m (weight-in (a .looks .now)) (a .ahead)) (l .i) (at .own within) (at .able within (l .i) (at .own within)) (l .top) weight next _ _
           (l .inv .2 m k ls h left) (weight-at (a .looks .now) (l .i)) (c .before .may-raise .ensures) fit _ (c .if3 .left)
           (ceiling-left m (a .looks .now) (h .ceiling) (a .ahead - 1) (less ls (m .hours (l .i + 1))) fewer) refl),
     )
