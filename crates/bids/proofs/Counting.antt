@@ -1,7 +1,7 @@
 -- Each client's bids counted in an array, bid by bid, and the counts held to the limit, client by client. Cited by the proofs of
 -- src/limit.rt. Assumes nothing.
 use mathlib.Core.Path.{_≡_, sym, ap, _∙_}
-use mathlib.Core.Bool.{Bool, true, _&&_, cond}
+use mathlib.Core.Bool.{Bool, true, _&&_, cond, and-eq-true-iff}
 use mathlib.Core.List.{List, [], _∷_}
 use Prim.Native.Nat.{ℕ, _+_, _-_, _≤_, _<_}
 use native.Mathlib.Numerals.{add-one}
@@ -17,7 +17,7 @@ use Rattle.book.specs.Book.{Bid}
 use Rattle.book.specs.Layout.{bid-here, bids-in}
 use Rattle.book.proofs.Next.{bids-next}
 use Rattle.book.specs.Questions.{bid-good, bids-of, few-bids}
-use Rattle.book.proofs.Tests.{both-true, within-true}
+use Rattle.book.proofs.Tests.{within-true}
 use Rattle.bids.specs.Small.{Named, Counted}
 
 -- bids that are good name clients up to n
@@ -25,8 +25,8 @@ pub named : (n : ℕ) (xs : List Bid) → n ≤ 6 → all (bid-good n) xs ≡ tr
 unfolding all bid-good Named
 named n [] l h = tt
 named n (x ∷ xs) l h =
-    let p = both-true (bid-good n x) (all (bid-good n) xs) h in
-    let q = within-true 1 (x .client) n (both-true (within 1 (x .client) n) _ (p .0) .0) in
+    let p = and-eq-true-iff (bid-good n x) (all (bid-good n) xs) .0 h in
+    let q = within-true 1 (x .client) n (and-eq-true-iff (within 1 (x .client) n) _ .0 (p .0) .0) in
     (omega (arith, q .1), named n xs l (p .1))
 
 module _ (x : Bid) (xs ys : List Bid) (e : xs ≡ x ∷ ys) where

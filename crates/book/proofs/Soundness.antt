@@ -1,7 +1,7 @@
 -- A book is refused with 0 exactly where it is sound: `sound` and `refusal-zero`. And how long a sound book can be. Cited by the layers
 -- above. Assumes nothing.
-use mathlib.Core.Path.{_≡_, refl, sym}
-use mathlib.Core.Bool.{Bool, true, false, _&&_, not, cond}
+use mathlib.Core.Path.{_≡_, refl, sym, ap₂}
+use mathlib.Core.Bool.{Bool, true, false, _&&_, not, cond, and-eq-true-iff}
 use mathlib.Core.List.{List}
 use Prim.Native.Nat.{ℕ, zero, suc, _+_, _*_, _-_, _≤_, _<_}
 use native.Mathlib.Nat.{le-trans, le-of-eq}
@@ -16,7 +16,7 @@ use Rattle.book.specs.Questions.{version-good, book-formula, counts-good
 use Rattle.book.specs.Sound.{no-kind, Sound}
 use Rattle.book.proofs.Products.{product-most}
 use Rattle.book.proofs.Places.{kinds-count, clients-count, bids-count}
-use Rattle.book.proofs.Tests.{both-true, true-both, within-true, true-within, all-true, true-all, all-to-true, true-all-to}
+use Rattle.book.proofs.Tests.{within-true, true-within, all-true, true-all, all-to-true, true-all-to}
 
 -- five questions in a row, of which none is answered no
 pub record Five (a b c d e : Bool) : Type 0 where
@@ -55,11 +55,11 @@ pub record Counts (bs : List ℕ) : Type 0 where
 pub counts : (bs : List ℕ) → counts-good bs ≡ true → Counts bs
 unfolding counts-good
 counts bs h =
-    let p = both-true (leb (book-long bs) (length bs) && ltb (5 + 3 * K-of bs + n-of bs) (book-long bs)) _ h in
-    let inside = both-true (leb (book-long bs) (length bs)) _ (p .0) in
-    let q = both-true (within 1 (K-of bs) 4 && (within 1 (n-of bs) 6 && leb (m-of bs) 48)) _ (p .1) in
-    let k = both-true (within 1 (K-of bs) 4) _ (q .0) in
-    let n = both-true (within 1 (n-of bs) 6) _ (k .1) in
+    let p = and-eq-true-iff (leb (book-long bs) (length bs) && ltb (5 + 3 * K-of bs + n-of bs) (book-long bs)) _ .0 h in
+    let inside = and-eq-true-iff (leb (book-long bs) (length bs)) _ .0 (p .0) in
+    let q = and-eq-true-iff (within 1 (K-of bs) 4 && (within 1 (n-of bs) 6 && leb (m-of bs) 48)) _ .0 (p .1) in
+    let k = and-eq-true-iff (within 1 (K-of bs) 4) _ .0 (q .0) in
+    let n = and-eq-true-iff (within 1 (n-of bs) 6) _ .0 (k .1) in
     record {
       whole = leb-true _ _ (inside .0);
       K-range = within-true 1 (K-of bs) 4 (k .0);
@@ -76,13 +76,13 @@ pub record Bid-facts (n : ℕ) (x : Bid) : Type 0 where
 bid-facts : (n : ℕ) (x : Bid) → bid-good n x ≡ true → Bid-facts n x
 unfolding bid-good
 bid-facts n x h =
-    let p = both-true (within 1 (x .client) n) _ h in
-    let q = both-true (leb 1 (total (x .hours))) _ (p .1) in
+    let p = and-eq-true-iff (within 1 (x .client) n) _ .0 h in
+    let q = and-eq-true-iff (leb 1 (total (x .hours))) _ .0 (p .1) in
     record { client = within-true 1 (x .client) n (p .0); hours = leb-true _ _ (q .0); amount = within-true 1 (x .amount) 1000000 (q .1) }
 
 facts-bid : (n : ℕ) (x : Bid) → 1 ≤ x .client → x .client ≤ n → 1 ≤ total (x .hours) → 1 ≤ x .amount → x .amount ≤ 1000000 → bid-good n x ≡ true
 unfolding bid-good
-facts-bid n x a b c d e = true-both (true-within 1 (x .client) n a b) (true-both (le-leb _ _ c) (true-within 1 (x .amount) 1000000 d e))
+facts-bid n x a b c d e = ap₂ _&&_ (true-within 1 (x .client) n a b) (ap₂ _&&_ (le-leb _ _ c) (true-within 1 (x .amount) 1000000 d e))
 
 pub questions : (bs : List ℕ) → book-refusal bs ≡ 0
     → Five (version-good bs) (counts-good bs) (tables-good (book-in bs)) (bids-good (book-in bs)) (amounts-good (book-in bs))
@@ -94,10 +94,10 @@ unfolding version-good tables-good bids-good amounts-good kind-good status-good 
 sound bs h =
     let b = book-in bs in
     let q = questions bs h in
-    let one = both-true (leb 3 (length bs)) _ (q .one) in
+    let one = and-eq-true-iff (leb 3 (length bs)) _ .0 (q .one) in
     let two = counts bs (q .two) in
-    let three = both-true (all kind-good (b .kinds)) _ (q .three) in
-    let four = both-true (all (bid-good (clients b)) (b .bids)) _ (q .four) in
+    let three = and-eq-true-iff (all kind-good (b .kinds)) _ .0 (q .three) in
+    let four = and-eq-true-iff (all (bid-good (clients b)) (b .bids)) _ .0 (q .four) in
     let kind : (k : ℕ) → k < K-of bs → kind-good (getD (b .kinds) k no-kind) ≡ true
     = λ k l. all-true kind-good no-kind (b .kinds) (three .0) k (le-trans l (le-of-eq (sym (kinds-count bs)))) in
     let bid : (i : ℕ) → 1 ≤ i → i ≤ m-of bs → Bid-facts (clients b) (bid-at b i)
@@ -112,8 +112,8 @@ sound bs h =
       n-high = two .n-range .1;
       m-high = two .m-high;
       formula = two .formula;
-      supply = λ k l. leb-true _ _ (both-true (leb (getD (b .kinds) k no-kind .supply) 200) _ (kind k l) .0);
-      reserve = λ k l. leb-true _ _ (both-true (leb (getD (b .kinds) k no-kind .supply) 200) _ (kind k l) .1);
+      supply = λ k l. leb-true _ _ (and-eq-true-iff (leb (getD (b .kinds) k no-kind .supply) 200) _ .0 (kind k l) .0);
+      reserve = λ k l. leb-true _ _ (and-eq-true-iff (leb (getD (b .kinds) k no-kind .supply) 200) _ .0 (kind k l) .1);
       status = λ c l. leb-true _ _ (all-true status-good 0 (b .statuses) (three .1) c (le-trans l (le-of-eq (sym (clients-count bs)))));
       client-low = λ i l k. bid i l k .client .0;
       client-high = λ i l k. le-trans (bid i l k .client .1) (le-of-eq (clients-count bs));
@@ -127,19 +127,19 @@ sound bs h =
 facts-counts : (bs : List ℕ) → Sound bs → counts-good bs ≡ true
 unfolding counts-good book-formula
 facts-counts bs s =
-    true-both
-    (true-both (le-leb _ _ (s .whole)) (lt-ltb (5 + 3 * K-of bs + n-of bs) (book-long bs) (omega (arith, s .formula))))
-    (true-both
-    (true-both (true-within 1 (K-of bs) 4 (s .K-low) (s .K-high)) (true-both (true-within 1 (n-of bs) 6 (s .n-low) (s .n-high)) (le-leb _ _ (s .m-high))))
+    ap₂ _&&_
+    (ap₂ _&&_ (le-leb _ _ (s .whole)) (lt-ltb (5 + 3 * K-of bs + n-of bs) (book-long bs) (omega (arith, s .formula))))
+    (ap₂ _&&_
+    (ap₂ _&&_ (true-within 1 (K-of bs) 4 (s .K-low) (s .K-high)) (ap₂ _&&_ (true-within 1 (n-of bs) 6 (s .n-low) (s .n-high)) (le-leb _ _ (s .m-high))))
     (eq-eqb _ _ (s .formula)))
 
 facts-tables : (bs : List ℕ) → Sound bs → tables-good (book-in bs) ≡ true
 unfolding tables-good kind-good status-good clients
 facts-tables bs s =
-    true-both
+    ap₂ _&&_
     (true-all kind-good no-kind (book-in bs .kinds) (λ k l.
     let m = le-trans l (le-of-eq (kinds-count bs)) in
-    true-both (le-leb _ _ (s .supply k m)) (le-leb _ _ (s .reserve k m))))
+    ap₂ _&&_ (le-leb _ _ (s .supply k m)) (le-leb _ _ (s .reserve k m))))
     (true-all status-good 0 (book-in bs .statuses) (λ c l. le-leb _ _ (s .status c (le-trans l (le-of-eq (clients-count bs))))))
 
 facts-bids : (bs : List ℕ) → Sound bs → bids-good (book-in bs) ≡ true
@@ -147,7 +147,7 @@ unfolding bids-good few-bids client-of
 facts-bids bs s =
     let b = book-in bs in
     let most : n-of bs ≤ clients b = le-of-eq (sym (clients-count bs)) in
-    true-both
+    ap₂ _&&_
     (numbered-bid bs (bid-good (clients b)) (λ i l k.
     facts-bid (clients b) (bid-at b i) (s .client-low i l k) (le-trans (s .client-high i l k) most) (s .hours i l k) (s .amount-low i l k) (s .amount-high i l k)))
     (true-all-to (few-bids (b .bids)) (clients b) (λ c l k. le-leb _ _ (s .eight c l (le-trans k (le-of-eq (clients-count bs))))))
@@ -159,7 +159,7 @@ facts-amounts bs s = numbered-bid bs (reserves-met (book-in bs .kinds)) (λ i l 
 pub refusal-zero : (bs : List ℕ) → Sound bs → book-refusal bs ≡ 0
 unfolding book-refusal version-good
 refusal-zero bs s =
-    rw (true-both (le-leb _ _ (s .there)) (eq-eqb _ _ (s .version)), facts-counts bs s, facts-tables bs s, facts-bids bs s, facts-amounts bs s)
+    rw (ap₂ _&&_ (le-leb _ _ (s .there)) (eq-eqb _ _ (s .version)), facts-counts bs s, facts-tables bs s, facts-bids bs s, facts-amounts bs s)
 
 -- a sound book has at most 456 bytes
 pub longest-book : (bs : List ℕ) → Sound bs → book-long bs ≤ 456

@@ -1,7 +1,7 @@
 -- The step of the test of a list of bids: one bid more follows or it does not; the sum of amounts and the list of clients for one bid
 -- more. Cited by the proofs of src/lib.rt. Assumes nothing.
 use mathlib.Core.Path.{_≡_, refl, sym, ap, _∙_}
-use mathlib.Core.Bool.{Bool, true, false, _&&_, and-assoc, and-false, and-true}
+use mathlib.Core.Bool.{Bool, true, false, _&&_, and-assoc, and-false, and-true, and-eq-true-iff}
 use mathlib.Core.List.{List, [], _∷_}
 use mathlib.Core.Logic.{⊎-elim}
 use Prim.Native.Nat.{ℕ, _+_, _≤_}
@@ -19,7 +19,7 @@ use Rattle.hours.proofs.Fours.{four-take, less-take}
 use Rattle.market.specs.Market.{at, fits, less}
 use Rattle.market.specs.Combination.{rising-from}
 use Rattle.market.specs.Combination.{worth}
-use Rattle.market.proofs.Bools.{either, and-parts}
+use Rattle.market.proofs.Bools.{either}
 use Rattle.combinations.specs.Combinations.{market}
 use Rattle.choice.specs.Chosen.{follows}
 
@@ -43,9 +43,9 @@ module _ (b : Book) (c : ℕ) (ls : List ℕ) (i : ℕ) (is : List ℕ) where
   pub follows-number : follows b c ls i ≡ true → (1 ≤ i) × (i ≤ length (b .bids))
   unfolding follows
   follows-number t =
-      let p = and-parts _ (fits (bid-at b i .hours) ls) t in
-      let q = and-parts (leb 1 i && leb i (length (b .bids))) _ (p .0) in
-      let r = and-parts (leb 1 i) (leb i (length (b .bids))) (q .0) in
+      let p = and-eq-true-iff _ (fits (bid-at b i .hours) ls) .0 t in
+      let q = and-eq-true-iff (leb 1 i && leb i (length (b .bids))) _ .0 (p .0) in
+      let r = and-eq-true-iff (leb 1 i) (leb i (length (b .bids))) .0 (q .0) in
       (leb-true 1 i (r .0), leb-true i _ (r .1))
 
   pub choice-next : (ok t now z : Bool) (owner : ℕ) (ls′ : List ℕ) → now ≡ (ok && t) → t ≡ follows b c ls i
@@ -75,7 +75,7 @@ unfolding follows
 follows-code bs k m n i c owner ls few ek em en eo =
     rw (em, en, eo, bids-count bs, clients-count bs)
     (same-where (leb 1 i && leb i (m-of bs)) _ _ _
-    (λ y. let q = and-parts (leb 1 i) (leb i (m-of bs)) y in
+    (λ y. let q = and-eq-true-iff (leb 1 i) (leb i (m-of bs)) .0 y in
     ap (λ (hs : List ℕ). fits hs ls) (asked-hours bs k i few ek (leb-true 1 i (q .0)) (leb-true i _ (q .1)))))
 
 -- what is left, where the bid is one of the book's

@@ -7,7 +7,7 @@ use book::flags;
 use book::layout;
 ghost use mathlib.Core.Path.{_≡_};
 ghost use mathlib.Core.List.{map};
-ghost use Prim.Native.Nat.{_*_, _≤_};
+ghost use Prim.Native.Nat.{_≤_};
 ghost use lib.ListN.{take};
 ghost use Rattle.book.specs.Book.{bid-at, client-of, clients, supplies};
 ghost use Rattle.book.specs.Layout.{book-in};

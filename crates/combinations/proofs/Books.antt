@@ -9,7 +9,7 @@ use native.Mathlib.Nat.{le-trans, le-of-eq}
 use native.Mathlib.Decide.{decLe}
 use native.Mathlib.Omega.{arith}
 use lib.ListN.{length}
-use Rattle.market.specs.Market.{Market, at, Supplied}
+use Rattle.market.specs.Market.{at, Supplied}
 use Rattle.market.specs.Combination as Market·
 use Rattle.market.proofs.Test as Test
 use Rattle.book.specs.Book.{client-of, clients, standing, supplies}

@@ -7,7 +7,6 @@ use mathlib.Core.Logic.{_↔_}
 use Prim.Native.Nat.{ℕ, zero, suc, _≤_}
 use native.Mathlib.Nat.{le-trans, le-of-eq, le-antisymm}
 use borrow.Author.Tests.{not-true}
-use Rattle.market.specs.Market.{Market}
 use Rattle.market.specs.Combination as Market·
 use Rattle.market.proofs.Optimum.{greatest-best}
 use Rattle.market.proofs.Restrict.{combination-only}

@@ -1,7 +1,7 @@
 -- σ: which clients a set picks from a list, and that σ with the greatest value without them makes the greatest value (surplus-is). Cited
 -- by the contract of the σ table and by the layers above. Assumes nothing.
 use mathlib.Core.Path.{_≡_, refl, sym, ap, _∙_}
-use mathlib.Core.Bool.{Bool, true, false, _&&_, _||_, or-true, false≢true}
+use mathlib.Core.Bool.{Bool, true, false, _&&_, _||_, or-true, false≢true, and-eq-true-iff}
 use mathlib.Core.List.{List}
 use mathlib.Core.Logic.{_≢_, inl, inr}
 use Prim.Native.Nat.{ℕ, zero, suc, _-_, _<_}
@@ -12,7 +12,6 @@ use lib.Dec.{eqb}
 use lib.ListN.{length}
 use Rattle.sets.specs.Sets.{has}
 use Rattle.market.specs.Market.{at}
-use Rattle.market.proofs.Bools.{and-parts, and-both}
 use Rattle.book.specs.Layout.{book-in}
 use Rattle.combinations.specs.Greatest.{greatest-without}
 use Rattle.combinations.specs.Surplus.{any, picked, surplus, Surplus-is}
@@ -45,13 +44,13 @@ pub picked-true : (cs : List ℕ) (L c : ℕ) → picked cs L c ≡ true → (j 
 unfolding picked
 picked-true cs L c h =
     let (j, l, p) = any-true (length cs) (λ j. has L j && eqb (at cs j) c) h in
-    let q = and-parts (has L j) (eqb (at cs j) c) p in
+    let q = and-eq-true-iff (has L j) (eqb (at cs j) c) .0 p in
     (j, l, q .0, eqb-true _ _ (q .1))
 
 pub true-picked : (cs : List ℕ) (L c j : ℕ) → j < length cs → has L j ≡ true → at cs j ≡ c → picked cs L c ≡ true
 unfolding picked
 true-picked cs L c j l h e =
-    true-any (length cs) (λ j. has L j && eqb (at cs j) c) j l (and-both (has L j) (eqb (at cs j) c) h (eq-eqb _ _ e))
+    true-any (length cs) (λ j. has L j && eqb (at cs j) c) j l (and-eq-true-iff (has L j) (eqb (at cs j) c) .1 (h, eq-eqb _ _ e))
 
 -- σ with the rest makes the whole
 pub surplus-is : (bs cs : List ℕ) (L : ℕ) → Surplus-is (book-in bs) cs L (surplus (book-in bs) cs L)

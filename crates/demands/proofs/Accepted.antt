@@ -2,13 +2,12 @@
 -- of questions 10 and 11 are those of admissible discounts. Cited by the demands and by what else is said of accepted inputs.
 -- Assumes nothing.
 use mathlib.Core.Path.{_≡_, sym, subst}
-use mathlib.Core.Bool.{true, _&&_}
+use mathlib.Core.Bool.{true, _&&_, and-eq-true-iff}
 use mathlib.Core.List.{List}
 use Prim.Native.Nat.{ℕ, _≤_}
 use lib.Dec.{leb}
 use lib.ListN.{length}
 use borrow.Author.Tests.{leb-true}
-use Rattle.market.proofs.Bools.{and-parts}
 use Rattle.pricing.specs.Certificate.{Certificate}
 use Rattle.pricing.specs.Fractions.{Fraction, over}
 use Rattle.pricing.specs.Discounts.{Proper, Reserve-kept, Sets-kept, own}
@@ -37,14 +36,14 @@ unfolding in-range
 scales c h =
     let counts = counts-in-range (c .w) (c .q) (c .s) in
     let winners = winners-in-range (c .w) (c .X) (c .Z) (c .R) (c .T) in
-    let front = and-parts (counts && winners && sets-in-range (c .w) (c .Y) (c .U)) _ h .0 in
-    let fair = and-parts counts winners (and-parts (counts && winners) _ front .0) .0 in
-    let (few-q, of-s) = and-parts (leb (c .w) 6 && scale-in-range (c .q)) (scale-in-range (c .s)) fair in
-    let (few, of-q) = and-parts (leb (c .w) 6) (scale-in-range (c .q)) few-q in
+    let front = and-eq-true-iff (counts && winners && sets-in-range (c .w) (c .Y) (c .U)) _ .0 h .0 in
+    let fair = and-eq-true-iff counts winners .0 (and-eq-true-iff (counts && winners) _ .0 front .0) .0 in
+    let (few-q, of-s) = and-eq-true-iff (leb (c .w) 6 && scale-in-range (c .q)) (scale-in-range (c .s)) .0 fair in
+    let (few, of-q) = and-eq-true-iff (leb (c .w) 6) (scale-in-range (c .q)) .0 few-q in
     record {
       few = leb-true (c .w) 6 few;
-      q = leb-true 1 (c .q) (and-parts (leb 1 (c .q)) (leb (c .q) 10000) of-q .0);
-      s = leb-true 1 (c .s) (and-parts (leb 1 (c .s)) (leb (c .s) 10000) of-s .0);
+      q = leb-true 1 (c .q) (and-eq-true-iff (leb 1 (c .q)) (leb (c .q) 10000) .0 of-q .0);
+      s = leb-true 1 (c .s) (and-eq-true-iff (leb 1 (c .s)) (leb (c .s) 10000) .0 of-s .0);
     }
 
 pub own-proper : (c : Certificate) → 1 ≤ c .q → Proper (c .w) (own c)

@@ -1,7 +1,7 @@
 -- Bytes that read alike up to a place: the fields, runs and books in them are the same, and a book that ends before that place passes the
 -- same questions. Cut and lengthened bytes are such. Cited by the laws on reading. Assumes nothing.
 use mathlib.Core.Path.{_≡_, refl, sym, ap, ap₂, _∙_}
-use mathlib.Core.Bool.{true, _&&_}
+use mathlib.Core.Bool.{true, _&&_, and-eq-true-iff}
 use mathlib.Core.List.{List, _∷_, _++_}
 use Prim.Native.Nat.{ℕ, zero, suc, _+_, _*_, _≤_, _<_}
 use native.Mathlib.Omega.{arith}
@@ -12,7 +12,6 @@ use borrow.Author.Tests.{leb-true, le-leb}
 use Rattle.book.specs.Bytes.{byte, field, bytes-at}
 use Rattle.book.specs.Layout.{book-long, K-of, n-of, m-of, statuses-from, bids-from, kind-here, kinds-in, bid-here, bids-in, book-in}
 use Rattle.book.specs.Questions.{version-good, book-formula, counts-good, tables-good, bids-good, amounts-good, book-refusal}
-use Rattle.book.proofs.Tests.{both-true, true-both}
 use Rattle.book.proofs.Soundness.{counts, questions}
 
 -- below N the bytes are the same, and up to N the second are as long as the first
@@ -67,8 +66,8 @@ module _ (N : ℕ) (bs cs : List ℕ) (a : Alike N bs cs) where
 pub version-alike : (N : ℕ) (bs cs : List ℕ) → Alike N bs cs → 3 ≤ N → version-good bs ≡ true → version-good cs ≡ true
 unfolding version-good
 version-alike N bs cs a l h =
-    let (there, first) = both-true (leb 3 (length bs)) (eqb (byte 0 bs) 1) h in
-    true-both (le-leb 3 (length cs) (a .long 3 l (leb-true 3 (length bs) there)))
+    let (there, first) = and-eq-true-iff (leb 3 (length bs)) (eqb (byte 0 bs) 1) .0 h in
+    ap₂ _&&_ (le-leb 3 (length cs) (a .long 3 l (leb-true 3 (length bs) there)))
     (ap (λ (x : ℕ). eqb x 1) (sym (a .bytes 0 (omega arith))) ∙ first)
 
 -- A BOOK that ends before that place
@@ -107,11 +106,11 @@ module _ (N : ℕ) (bs cs : List ℕ) (a : Alike N bs cs) (ends : book-formula (
   pub counts-alike : counts-good bs ≡ true → counts-good cs ≡ true
   unfolding counts-good
   counts-alike h =
-      let (inside, ranges) = both-true (leb (book-long bs) (length bs) && ltb (5 + 3 * K-of bs + n-of bs) (book-long bs)) _ h in
-      let (there, before) = both-true (leb (book-long bs) (length bs)) _ inside in
+      let (inside, ranges) = and-eq-true-iff (leb (book-long bs) (length bs) && ltb (5 + 3 * K-of bs + n-of bs) (book-long bs)) _ .0 h in
+      let (there, before) = and-eq-true-iff (leb (book-long bs) (length bs)) _ .0 inside in
       let c = counts bs h in
       rw (← book-long-alike, ← K-alike, ← n-alike, ← m-alike)
-      (true-both (true-both (le-leb _ _ (a .long (book-long bs) (omega (arith, c .formula)) (c .whole))) before) ranges)
+      (ap₂ _&&_ (ap₂ _&&_ (le-leb _ _ (a .long (book-long bs) (omega (arith, c .formula)) (c .whole))) before) ranges)
 
   -- what reads like a sound book, as far as the book goes, is a sound book
   pub sound-alike : book-refusal bs ≡ 0 → book-refusal cs ≡ 0

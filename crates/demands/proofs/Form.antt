@@ -1,7 +1,7 @@
 -- Question 6 as plain facts, both ways; and that behind a sound book it leaves at most six winners and 950 bytes, so question 7's bound on
 -- w refuses nothing more. Cited by the laws on reading and by the sheet's reader. Assumes nothing.
-use mathlib.Core.Path.{_≡_}
-use mathlib.Core.Bool.{true, _&&_}
+use mathlib.Core.Path.{_≡_, ap₂}
+use mathlib.Core.Bool.{true, _&&_, and-eq-true-iff}
 use mathlib.Core.List.{List}
 use Prim.Native.Nat.{ℕ, _≤_}
 use native.Mathlib.Nat.{le-trans, le-of-eq}
@@ -13,7 +13,6 @@ use Rattle.book.specs.Book.{Book, clients}
 use Rattle.book.specs.Layout.{book-in}
 use Rattle.book.specs.Questions.{book-refusal}
 use Rattle.book.proofs.Places.{clients-count}
-use Rattle.book.proofs.Tests.{both-true, true-both}
 use Rattle.book.proofs.Soundness.{sound}
 use Rattle.demands.specs.Sheet.{sheet-long, sheet-w, sheet-formula}
 use Rattle.demands.specs.Questions.{form-good}
@@ -30,10 +29,10 @@ module _ (b : Book) (ss : List ℕ) where
   pub form-facts : form-good b ss ≡ true → Form b ss
   unfolding form-good
   form-facts h =
-      let (front, lengths) = both-true ((leb 4 (length ss) && eqb (byte 0 ss) 1) && leb (sheet-w ss) (clients b)) _ h in
-      let (start, winners) = both-true (leb 4 (length ss) && eqb (byte 0 ss) 1) (leb (sheet-w ss) (clients b)) front in
-      let (there, version) = both-true (leb 4 (length ss)) (eqb (byte 0 ss) 1) start in
-      let (own, whole) = both-true (eqb (sheet-long ss) (sheet-formula (sheet-w ss))) _ lengths in
+      let (front, lengths) = and-eq-true-iff ((leb 4 (length ss) && eqb (byte 0 ss) 1) && leb (sheet-w ss) (clients b)) _ .0 h in
+      let (start, winners) = and-eq-true-iff (leb 4 (length ss) && eqb (byte 0 ss) 1) (leb (sheet-w ss) (clients b)) .0 front in
+      let (there, version) = and-eq-true-iff (leb 4 (length ss)) (eqb (byte 0 ss) 1) .0 start in
+      let (own, whole) = and-eq-true-iff (eqb (sheet-long ss) (sheet-formula (sheet-w ss))) _ .0 lengths in
       record {
         there = leb-true 4 (length ss) there;
         version = eqb-true (byte 0 ss) 1 version;
@@ -45,8 +44,8 @@ module _ (b : Book) (ss : List ℕ) where
   pub facts-form : Form b ss → form-good b ss ≡ true
   unfolding form-good
   facts-form f =
-      true-both (true-both (true-both (le-leb _ _ (f .there)) (eq-eqb _ _ (f .version))) (le-leb _ _ (f .winners)))
-      (true-both (eq-eqb _ _ (f .own)) (eq-eqb _ _ (f .whole)))
+      ap₂ _&&_ (ap₂ _&&_ (ap₂ _&&_ (le-leb _ _ (f .there)) (eq-eqb _ _ (f .version))) (le-leb _ _ (f .winners)))
+      (ap₂ _&&_ (eq-eqb _ _ (f .own)) (eq-eqb _ _ (f .whole)))
 
   -- with six clients at most
   module _ (few : clients b ≤ 6) (h : form-good b ss ≡ true) where

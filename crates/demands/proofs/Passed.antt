@@ -1,13 +1,12 @@
 -- Inputs that pass the questions: what each question says of them, with the tests of 10 to 15 taken for what they ask; exactly these are
 -- accepted, and whatever else is refused has a number up to 15. Cited by the demands. Assumes nothing.
 use mathlib.Core.Path.{_≡_, refl}
-use mathlib.Core.Bool.{Bool, true, false, not, cond}
+use mathlib.Core.Bool.{Bool, true, false, not, cond, and-eq-true-iff}
 use mathlib.Core.List.{List}
 use Prim.Native.Nat.{ℕ, _≤_}
 use native.Mathlib.Omega.{arith}
 use lib.Dec.{eqb}
 use borrow.Author.Tests.{eqb-true, eqb-false, eq-eqb}
-use Rattle.market.proofs.Bools.{and-parts, and-both}
 use Rattle.pricing.specs.Certificate.{Certificate, Within-reserve, Within-sets, Balances}
 use Rattle.pricing.specs.Questions.{Asks, test, within-reserve, within-sets, cover, totals, stationary}
 use Rattle.pricing.specs.Questions.{slack-sets, slack-reserve, slack-zero}
@@ -34,8 +33,8 @@ module _ (c : Certificate) (σ ρ : ℕ → ℕ) where
   pub certificate-passed : All (certificate-tests c σ ρ) → Passed c σ ρ
   unfolding certificate-tests Asks
   certificate-passed (more a (more b (more d (more e (more f (more g none)))))) =
-      let (of-sets, of-winners) = and-parts (test slack-sets c σ ρ) _ g in
-      let (at-reserve, at-zero) = and-parts (test slack-reserve c σ ρ) _ of-winners in
+      let (of-sets, of-winners) = and-eq-true-iff (test slack-sets c σ ρ) _ .0 g in
+      let (at-reserve, at-zero) = and-eq-true-iff (test slack-reserve c σ ρ) _ .0 of-winners in
       record {
         reserve = test-iff within-reserve c σ ρ .0 a;
         sets = test-iff within-sets c σ ρ .0 b;
@@ -54,8 +53,8 @@ module _ (c : Certificate) (σ ρ : ℕ → ℕ) where
   passed-certificate p =
       let b = p .balances in
       let at-zero = test-iff slack-zero c σ ρ .1 (b .slack-zero) in
-      let of-winners = and-both (test slack-reserve c σ ρ) _ (test-iff slack-reserve c σ ρ .1 (b .slack-reserve)) at-zero in
-      let slack = and-both (test slack-sets c σ ρ) _ (test-iff slack-sets c σ ρ .1 (b .slack-sets)) of-winners in
+      let of-winners = and-eq-true-iff (test slack-reserve c σ ρ) _ .1 (test-iff slack-reserve c σ ρ .1 (b .slack-reserve), at-zero) in
+      let slack = and-eq-true-iff (test slack-sets c σ ρ) _ .1 (test-iff slack-sets c σ ρ .1 (b .slack-sets), of-winners) in
       more (test-iff within-reserve c σ ρ .1 (p .reserve))
       (more (test-iff within-sets c σ ρ .1 (p .sets))
       (more (test-iff cover c σ ρ .1 (b .cover))

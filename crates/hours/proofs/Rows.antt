@@ -1,6 +1,6 @@
 -- Four kinds, of which the first k count: the test of the hours asked, and what is left. Cited by the proofs of src/lib.rt. Assumes nothing.
 use mathlib.Core.Path.{_≡_, refl, sym, _∙_}
-use mathlib.Core.Bool.{Bool, true, false, _&&_, _||_, or-true}
+use mathlib.Core.Bool.{Bool, true, false, _&&_, _||_, or-true, and-eq-true-iff}
 use mathlib.Core.List.{List, [], _∷_}
 use Prim.Native.Nat.{ℕ, _-_, _≤_, _<_}
 use native.Mathlib.Omega.{arith}
@@ -11,7 +11,6 @@ use lib.ListN.{length, getD, take, length-take}
 use lib.Seq.{ext-getD, getD-take}
 use Rattle.market.specs.Market.{fits, less}
 use Rattle.market.proofs.Hours.{fits-at, fits-if, less-at, less-length}
-use Rattle.market.proofs.Bools.{and-parts}
 use Rattle.hours.proofs.Fours.{four-cases, four-at}
 
 -- two tests that follow from each other
@@ -36,9 +35,9 @@ module _ (k : ℕ) (asked left : List ℕ) (ea : length asked ≡ 4) (el : lengt
 
   tests-fit : ((test 0 && test 1) && (test 2 && test 3)) ≡ true → fits (take k asked) (take k left) ≡ true
   tests-fit t =
-      let (ab, cd) = and-parts (test 0 && test 1) (test 2 && test 3) t in
-      let (a, b) = and-parts (test 0) (test 1) ab in
-      let (c, d) = and-parts (test 2) (test 3) cd in
+      let (ab, cd) = and-eq-true-iff (test 0 && test 1) (test 2 && test 3) .0 t in
+      let (a, b) = and-eq-true-iff (test 0) (test 1) .0 ab in
+      let (c, d) = and-eq-true-iff (test 2) (test 3) .0 cd in
       fits-if (take k asked) (take k left) (omega (arith, length-take k asked, length-take k left))
       (λ j l. let within : j < k = omega (arith, length-take k left) in
       omega (arith, getD-take k asked j 0 within, getD-take k left j 0 within, test-says j within (four-cases (λ j. test j ≡ true) a b c d j (omega (arith, length-take k left)))))

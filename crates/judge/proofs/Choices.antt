@@ -1,7 +1,7 @@
 -- Questions 7 to 9 of a sheet that has been read, by what the range check, the test of a combination and the σ table answer. Cited by the
 -- proof of src/chain.rt's `number_of`. Assumes nothing.
 use mathlib.Core.Path.{_≡_, refl, sym, ap, ap₂, _∙_}
-use mathlib.Core.Bool.{Bool, true, false, _&&_, cond}
+use mathlib.Core.Bool.{Bool, true, false, _&&_, cond, and-eq-true-iff}
 use mathlib.Core.List.{List, [], _∷_, map}
 use Prim.Native.Nat.{ℕ, suc, _^_, _≤_, _<_}
 use native.Mathlib.Nat.{le-trans, le-of-eq}
@@ -15,7 +15,6 @@ use Rattle.pricing.specs.Ranges.{in-range}
 use Rattle.sets.proofs.Tables.{tabulate-at}
 use Rattle.market.specs.Market.{at}
 use Rattle.market.specs.Combination as Market·
-use Rattle.market.proofs.Bools.{and-both}
 use Rattle.book.specs.Book.{client-of, clients, supplies}
 use Rattle.book.specs.Layout.{n-of}
 use Rattle.book.specs.Questions.{book-refusal}
@@ -52,8 +51,7 @@ unfolding rising-to
 rising-true n c [] h r = refl
 rising-true n c (x ∷ xs) h r =
     let first = h 0 (omega arith) in
-    and-both (ltb c x && leb x n) _ (and-both (ltb c x) (leb x n) (lt-ltb c x (first .0)) (le-leb x n (first .1)))
-    (rising-true n x xs (λ j l. (r 0 (suc j) (omega arith) (omega arith), h (suc j) (omega arith) .1)) (λ j k l m. r (suc j) (suc k) (omega arith) (omega arith)))
+    and-eq-true-iff (ltb c x && leb x n) _ .1 ((and-eq-true-iff (ltb c x) (leb x n) .1 (lt-ltb c x (first .0), le-leb x n (first .1))), (rising-true n x xs (λ j l. (r 0 (suc j) (omega arith) (omega arith), h (suc j) (omega arith) .1)) (λ j k l m. r (suc j) (suc k) (omega arith) (omega arith))))
 
 module _ (bs bids : List ℕ) (f : Figures) (r : Read bs bids f) where
   -- question 7

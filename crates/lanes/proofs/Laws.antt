@@ -1,7 +1,7 @@
 -- Hours in lanes: whether every guard is clear says whether the hours fit, and the sum is then what is used. Cited by the search of the
 -- layer above. What is said of four lanes is shown for n. Assumes nothing.
 use mathlib.Core.Path.{_≡_, refl, sym, ap, _∙_}
-use mathlib.Core.Bool.{Bool, true, _&&_}
+use mathlib.Core.Bool.{Bool, true, _&&_, and-eq-true-iff}
 use mathlib.Core.List.{List, [], _∷_}
 use Prim.Native.Nat.{ℕ, zero, suc, _+_, _*_, _-_, _≤_, _<_}
 use native.Mathlib.Nat.{add-zero}
@@ -14,7 +14,6 @@ use lib.ListN.{length, getD, take, List·getD-eq-default}
 use lib.Seq.{getD-take}
 use Rattle.market.specs.Market.{fits, less}
 use Rattle.market.proofs.Hours.{less-at}
-use Rattle.market.proofs.Bools.{and-parts}
 use Rattle.lanes.specs.Lanes.{packed, used, Bytes}
 use Rattle.lanes.proofs.Guard.{lane-test}
 
@@ -32,7 +31,7 @@ rest-lanes n [] (l ∷ ls) s m b t = omega arith
 rest-lanes n (h ∷ hs) [] s m b t = absurd (omega arith)
 rest-lanes zero (h ∷ hs) (l ∷ ls) s m b t = absurd (omega arith)
 rest-lanes (suc n) (h ∷ hs) (l ∷ ls) s m b t =
-    let (x, y) = and-parts (leb h l) (fits hs ls) t in
+    let (x, y) = and-eq-true-iff (leb h l) (fits hs ls) .0 t in
     omega (arith, b 0, leb-true h l x, rest-lanes n hs ls (omega arith) (omega arith) (λ i. b (suc i)) y)
 
 -- one lane of a sum is tested apart

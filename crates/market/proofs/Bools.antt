@@ -1,18 +1,12 @@
--- Cases on a test with the equation kept, and an `and` of tests taken apart and put together. The other files of proofs/ cite them.
--- Assumes nothing.
+-- Cases on a test with the equation kept, and a choice made by a test. Cited by the other files of proofs/, and by the layers above. Assumes
+-- nothing.
 use mathlib.Core.Path.{_≡_, refl}
-use mathlib.Core.Bool.{Bool, true, false, cond, _&&_, and-eq-true-iff}
+use mathlib.Core.Bool.{Bool, true, false, cond}
 use mathlib.Core.Logic.{_⊎_, inl, inr}
 
 pub either : (b : Bool) → (b ≡ true) ⊎ (b ≡ false)
 either true = inl refl
 either false = inr refl
-
-pub and-parts : (a b : Bool) → (a && b) ≡ true → (a ≡ true) × (b ≡ true)
-and-parts a b = and-eq-true-iff a b .0
-
-pub and-both : (a b : Bool) → a ≡ true → b ≡ true → (a && b) ≡ true
-and-both a b s t = and-eq-true-iff a b .1 (s, t)
 
 module _ {A : Type 0} where
   -- what holds of both choices, each where it is made, holds of the choice

@@ -2,7 +2,7 @@
 -- best-floor), bids that are not open are passed by (choose-skip), and ceilings for the clients left bound the recursion
 -- (best-ceiling). Clients with no bid add nothing (best-idle), and only the bids' weights count (best-weights). The layers above cite them. Assumes nothing.
 use mathlib.Core.Path.{_≡_, refl, sym, ap, ap₂, fun-ext, _∙_}
-use mathlib.Core.Bool.{true, false, _&&_}
+use mathlib.Core.Bool.{true, false, _&&_, and-eq-true-iff}
 use mathlib.Core.List.{List}
 use mathlib.Core.Logic.{⊎-elim}
 use Prim.Native.Nat.{ℕ, zero, suc, _+_, _-_, _≤_, _<_, max}
@@ -12,7 +12,7 @@ use borrow.Author.Tests.{eqb-true, ne-eqb}
 use lib.Dec.{eqb}
 use Rattle.market.specs.Market.{Market, fits, less}
 use Rattle.market.specs.Greatest.{open-to, choose, best}
-use Rattle.market.proofs.Bools.{either, and-parts}
+use Rattle.market.proofs.Bools.{either}
 use Rattle.market.proofs.Choose.{choose-attained}
 
 max-among : (q v x : ℕ) → max (max q v) x ≡ max q (max v x)
@@ -58,9 +58,9 @@ best-ceiling m wt tops falls covers zero c ls l = omega arith
 best-ceiling m wt tops falls covers (suc k) c ls low =
     ⊎-elim
     (λ e. le-trans (le-of-eq e) (le-trans (best-ceiling m wt tops falls covers k (suc c) ls (omega arith)) (falls c low)))
-    (λ (i, l, t, e). let (same, able) = and-parts (eqb (m .owner (suc i)) c) (m .may (suc i) && fits (m .hours (suc i)) ls) t in
+    (λ (i, l, t, e). let (same, able) = and-eq-true-iff (eqb (m .owner (suc i)) c) (m .may (suc i) && fits (m .hours (suc i)) ls) .0 t in
     let own : m .owner (suc i) ≡ c = eqb-true _ _ same in
-    let below = rw own at (covers i l (and-parts (m .may (suc i)) (fits (m .hours (suc i)) ls) able .0)) in
+    let below = rw own at (covers i l (and-eq-true-iff (m .may (suc i)) (fits (m .hours (suc i)) ls) .0 able .0)) in
     omega (arith, e, below, best-ceiling m wt tops falls covers k (suc c) (less ls (m .hours (suc i))) (omega arith)))
     (choose-attained m wt c ls (best m wt k (suc c) ls) (λ rs. best m wt k (suc c) rs) (m .bids))
 

@@ -2,7 +2,7 @@
 -- whose clients are kept, and its value is no larger. proofs/Kept.antt and the layers above cite it where clients are discarded.
 -- Assumes nothing.
 use mathlib.Core.Path.{_≡_, refl, sym, _∙_, ap, subst}
-use mathlib.Core.Bool.{Bool, true, _&&_, and-assoc, and-comm, and-true}
+use mathlib.Core.Bool.{Bool, true, _&&_, and-assoc, and-comm, and-true, and-eq-true-iff}
 use mathlib.Core.List.{List}
 use mathlib.Core.Logic.{_↔_}
 use Prim.Native.Nat.{ℕ, _≤_, _<_}
@@ -11,7 +11,6 @@ use lib.ListN.{length}
 use Rattle.market.specs.Market.{Market, at}
 use Rattle.market.specs.Combination.{Combination, Greatest}
 use Rattle.market.specs.Restrict.{only}
-use Rattle.market.proofs.Bools.{and-parts, and-both}
 use Rattle.market.proofs.Parts.{Candidate}
 use Rattle.market.proofs.Compare.{Carries, combination-carried, greatest-carried, greatest-more-bids, covers-itself}
 
@@ -54,14 +53,14 @@ module _ (m : Market) (n : ℕ) (keep : ℕ → Bool) where
       record {
         first = b .first;
         last = b .last;
-        eligible = and-both (m .may i) (keep (m .owner i)) (b .eligible) k;
+        eligible = and-eq-true-iff (m .may i) (keep (m .owner i)) .1 (b .eligible, k);
         owner-first = b .owner-first;
         owner-last = b .owner-last;
       }
 
   candidate-only : (i : ℕ) → Candidate (only keep m) n i → Candidate m n i × (keep (m .owner i) ≡ true)
   candidate-only i b =
-      let (may, k) = and-parts (m .may i) (keep (m .owner i)) (b .eligible) in
+      let (may, k) = and-eq-true-iff (m .may i) (keep (m .owner i)) .0 (b .eligible) in
       (record { first = b .first; last = b .last; eligible = may; owner-first = b .owner-first; owner-last = b .owner-last }, k)
 
   only-carries : Carries (only keep m) n m n
@@ -73,11 +72,11 @@ module _ (m : Market) (n : ℕ) (keep : ℕ → Bool) where
   combination-only supply is = (
     λ c. (
       combination-carried (only keep m) n supply m n supply only-carries (covers-itself supply) is c,
-      λ k l. and-parts (m .may (at is k)) (keep (m .owner (at is k))) (c .eligible k l) .1,
+      λ k l. and-eq-true-iff (m .may (at is k)) (keep (m .owner (at is k))) .0 (c .eligible k l) .1,
     ),
     λ (c, h). record {
       numbers = c .numbers;
-      eligible = λ k l. and-both (m .may (at is k)) (keep (m .owner (at is k))) (c .eligible k l) (h k l);
+      eligible = λ k l. and-eq-true-iff (m .may (at is k)) (keep (m .owner (at is k))) .1 (c .eligible k l, h k l);
       owners = c .owners;
       one-each = c .one-each;
       within = c .within;
@@ -98,6 +97,6 @@ module _ (m : Market) (n : ℕ) (keep : ℕ → Bool) where
         owner = λ i f l. refl;
         hours = λ i f l. refl;
         may =
-            λ i f l t. let (may, k) = and-parts (m .may i) (keep (m .owner i)) t in
-            and-both (m .may i) (keep′ (m .owner i)) may (h (m .owner i) k);
+            λ i f l t. let (may, k) = and-eq-true-iff (m .may i) (keep (m .owner i)) .0 t in
+            and-eq-true-iff (m .may i) (keep′ (m .owner i)) .1 (may, h (m .owner i) k);
       })

@@ -1,7 +1,7 @@
 -- The test of one pass is right: it is true exactly of the combinations by rising client. The layers above cite combination-test.
 -- Assumes nothing.
 use mathlib.Core.Path.{_≡_, refl}
-use mathlib.Core.Bool.{Bool, true, _&&_}
+use mathlib.Core.Bool.{Bool, true, _&&_, and-eq-true-iff}
 use mathlib.Core.List.{List, [], _∷_}
 use mathlib.Core.Logic.{_↔_}
 use Prim.Native.Nat.{ℕ, _<_}
@@ -10,7 +10,6 @@ use lib.Dec.{leb, ltb}
 use borrow.Author.Tests.{leb-true, ltb-true, le-leb, lt-ltb}
 use Rattle.market.specs.Market.{Market, fits, less, Supplied}
 use Rattle.market.specs.Combination.{Combination, Rising, rising-from, is-combination}
-use Rattle.market.proofs.Bools.{and-parts}
 use Rattle.market.proofs.Row.{Row, row-combination, combination-row}
 
 -- the seven tests that the pass puts to a bid and to the rest, bracketed as it puts them
@@ -18,12 +17,12 @@ module _ (a b c d e f g : Bool) where
   seven-parts : (((a && b) && ((c && d) && e)) && (f && g)) ≡ true
       → (a ≡ true) × (b ≡ true) × (c ≡ true) × (d ≡ true) × (e ≡ true) × (f ≡ true) × (g ≡ true)
   seven-parts t =
-      let (l, r) = and-parts ((a && b) && ((c && d) && e)) (f && g) t in
-      let (ab, cde) = and-parts (a && b) ((c && d) && e) l in
-      let (cd, te) = and-parts (c && d) e cde in
-      let (ta, tb) = and-parts a b ab in
-      let (tc, td) = and-parts c d cd in
-      let (tf, tg) = and-parts f g r in
+      let (l, r) = and-eq-true-iff ((a && b) && ((c && d) && e)) (f && g) .0 t in
+      let (ab, cde) = and-eq-true-iff (a && b) ((c && d) && e) .0 l in
+      let (cd, te) = and-eq-true-iff (c && d) e .0 cde in
+      let (ta, tb) = and-eq-true-iff a b .0 ab in
+      let (tc, td) = and-eq-true-iff c d .0 cd in
+      let (tf, tg) = and-eq-true-iff f g .0 r in
       (ta, tb, tc, td, te, tf, tg)
 
   seven-all : a ≡ true → b ≡ true → c ≡ true → d ≡ true → e ≡ true → f ≡ true → g ≡ true

@@ -1,7 +1,7 @@
 -- A feasible vector from client 1 on: its bids are a combination by rising client, of the same worth, and its worth is a sum over its
 -- entries. proofs/VectorOf.antt has the way back. proofs/Optimum.antt and the layers above cite it. Assumes nothing.
 use mathlib.Core.Path.{_≡_, refl, ap}
-use mathlib.Core.Bool.{true, _&&_}
+use mathlib.Core.Bool.{true, _&&_, and-eq-true-iff}
 use mathlib.Core.List.{List, [], _∷_}
 use Prim.Native.Nat.{ℕ, zero, suc, _+_, _≤_}
 use native.Mathlib.Omega.{arith}
@@ -13,7 +13,6 @@ use Rattle.market.specs.Greatest.{open-to}
 use Rattle.market.specs.Combination.{Combination, Rising, worth}
 use Rattle.sets.specs.Sums.{sum}
 use Rattle.market.specs.Vector.{Feasible, entry, taken, bids-of}
-use Rattle.market.proofs.Bools.{and-parts, and-both}
 use Rattle.sets.proofs.Sums.{sum-front}
 use Rattle.market.proofs.Row.{Row, row-earlier, row-combination}
 
@@ -22,15 +21,14 @@ module _ (m : Market) (c : ℕ) (ls : List ℕ) (i : ℕ) where
   pub open-parts : open-to m c ls i ≡ true → (m .owner i ≡ c) × (m .may i ≡ true) × (fits (m .hours i) ls ≡ true)
   unfolding open-to
   open-parts t =
-      let (own, rest) = and-parts (eqb (m .owner i) c) (m .may i && fits (m .hours i) ls) t in
-      let (may, fit) = and-parts (m .may i) (fits (m .hours i) ls) rest in
+      let (own, rest) = and-eq-true-iff (eqb (m .owner i) c) (m .may i && fits (m .hours i) ls) .0 t in
+      let (may, fit) = and-eq-true-iff (m .may i) (fits (m .hours i) ls) .0 rest in
       (eqb-true (m .owner i) c own, may, fit)
 
   pub open-if : m .owner i ≡ c → m .may i ≡ true → fits (m .hours i) ls ≡ true → open-to m c ls i ≡ true
   unfolding open-to
   open-if own may fit =
-      and-both (eqb (m .owner i) c) (m .may i && fits (m .hours i) ls) (eq-eqb (m .owner i) c own)
-      (and-both (m .may i) (fits (m .hours i) ls) may fit)
+      and-eq-true-iff (eqb (m .owner i) c) (m .may i && fits (m .hours i) ls) .1 (eq-eqb (m .owner i) c own, (and-eq-true-iff (m .may i) (fits (m .hours i) ls) .1 (may, fit)))
 
 -- a vector's worth is a sum over its entries
 pub taken-sum : (wt : ℕ → ℕ) (is : List ℕ) → taken wt is ≡ sum (length is) (λ j. entry wt (at is j))

@@ -1,6 +1,6 @@
 -- The test of each question is true exactly where what it asks holds. Cited by the controls. Assumes nothing.
 use mathlib.Core.Path.{_≡_, refl, sym, ap, _∙_}
-use mathlib.Core.Bool.{Bool, true, false, _&&_, _||_, false≢true}
+use mathlib.Core.Bool.{Bool, true, false, _&&_, _||_, false≢true, and-eq-true-iff}
 use mathlib.Core.Logic.{_≢_, inl, inr, _↔_}
 use Prim.Native.Nat.{ℕ, zero, suc, _+_, _*_, _-_, _^_, _≤_, _<_}
 use native.Mathlib.Nat.{le-refl, eq-or-lt-of-le, le-of-suc-le-suc, not-suc-le-zero}
@@ -16,17 +16,13 @@ use Rattle.pricing.specs.Questions.{slack-sets, slack-reserve, slack-zer
 use Rattle.pricing.specs.Questions.{Asks, every, every-set, same-signed, slack, test}
 
 -- EVERY NUMBER, EVERY SET
-and-parts : (a b : Bool) → (a && b) ≡ true → (a ≡ true) × (b ≡ true)
-and-parts true b e = (refl, e)
-and-parts false b e = absurd (false≢true e)
-
 every-passes : (n : ℕ) (p : ℕ → Bool) → every n p ≡ true → (k : ℕ) → k < n → p k ≡ true
 unfolding every
 every-passes zero p e k l = absurd (not-suc-le-zero l)
 every-passes (suc n) p e k l =
     elim (eq-or-lt-of-le (le-of-suc-le-suc l)) [
-      | inl m ↦ ap p m ∙ and-parts (every n p) (p n) e .1
-      | inr m ↦ every-passes n p (and-parts (every n p) (p n) e .0) k m
+      | inl m ↦ ap p m ∙ and-eq-true-iff (every n p) (p n) .0 e .1
+      | inr m ↦ every-passes n p (and-eq-true-iff (every n p) (p n) .0 e .0) k m
     ]
 
 every-true : (n : ℕ) (p : ℕ → Bool) → ((k : ℕ) → k < n → p k ≡ true) → every n p ≡ true

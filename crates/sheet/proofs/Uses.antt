@@ -1,7 +1,7 @@
 -- What a caller takes from the contract of `read`: the number as question 6's alone, what a 0 says of the bytes, the sheet's bid numbers
 -- one by one and in a row, and the bytes after the book as a slice. Assumes nothing.
 use mathlib.Core.Path.{_≡_, refl, ap, _∙_}
-use mathlib.Core.Bool.{Bool, true, false, _&&_, cond}
+use mathlib.Core.Bool.{Bool, true, false, _&&_, cond, and-eq-true-iff}
 use mathlib.Core.List.{List, []}
 use mathlib.Core.Logic.{_≢_}
 use Prim.Native.Nat.{ℕ, _-_, _≤_}
@@ -13,7 +13,6 @@ use lib.Seq.{take-all, take-at}
 use borrow.Author.Tests.{leb-true, le-leb}
 use Rattle.book.specs.Book.{Book, clients}
 use Rattle.book.proofs.Next.{bytes-length}
-use Rattle.book.proofs.Tests.{both-true}
 use Rattle.pricing.specs.Certificate.{Certificate}
 use Rattle.ranges.specs.Figures.{at}
 use Rattle.demands.specs.Sheet.{sheet-w, numbers-in, sheet-in}
@@ -66,7 +65,7 @@ module _ (part : List ℕ) (n : ℕ) (r : Sheet) (read : Sheet-read part n r) wh
     held : (b : Book) → clients b ≡ n → (leb (sheet-w part) 6 ≡ true) × (form-good b part ≡ true)
     held b e =
         let t = leb (sheet-w part) 6 in
-        both-true t (form-good b part) (zero-held (t && form-good b part) (read .numbered b e) good)
+        and-eq-true-iff t (form-good b part) .0 (zero-held (t && form-good b part) (read .numbered b e) good)
 
     pub read-form : (b : Book) → clients b ≡ n → form-good b part ≡ true
     read-form b e = held b e .1

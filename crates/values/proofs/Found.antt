@@ -2,7 +2,7 @@
 -- over all clients gives the greatest value, at most 6,000,000. Cited by the proofs of src/tops.rt and src/value.rt.
 -- Assumes nothing.
 use mathlib.Core.Path.{_≡_, refl, sym, ap, _∙_}
-use mathlib.Core.Bool.{Bool, true, false, _&&_, not, cond, and-false, true≢false}
+use mathlib.Core.Bool.{Bool, true, false, _&&_, not, cond, and-false, true≢false, and-eq-true-iff}
 use mathlib.Core.List.{List}
 use mathlib.Core.Logic.{⊎-elim, inl, inr}
 use Prim.Native.Nat.{ℕ, zero, suc, _+_, _*_, _-_, _/_, _^_, _≤_, _<_, max}
@@ -23,7 +23,7 @@ use Rattle.book.proofs.Soundness.{sound}
 use Rattle.book.proofs.Places.{bids-count, clients-count, supplies-count, supply-at, supply-past}
 use Rattle.market.specs.Market.{Market}
 use Rattle.market.specs.Greatest.{best}
-use Rattle.market.proofs.Bools.{either, and-parts}
+use Rattle.market.proofs.Bools.{either}
 use Rattle.market.proofs.Prune.{best-idle, best-weights}
 use Rattle.lanes.specs.Lanes.{used, Bytes}
 use Rattle.lanes.proofs.Laws.{used-short}
@@ -136,7 +136,7 @@ module _ (b : Book) (d : ℕ) where
       rises = t .topped .rises;
       covers = λ i l y. let here : 6 - client-of b (i + 1) + 1 ≡ 7 - client-of b (i + 1) = omega (arith, o .high i) in
           let back : 7 - (7 - client-of b (i + 1)) ≡ client-of b (i + 1) = omega (arith, o .high i) in
-          let (stands, stays) = and-parts (standing b (client-of b (i + 1))) _ y in
+          let (stands, stays) = and-eq-true-iff (standing b (client-of b (i + 1))) _ .0 y in
           let grown = rw here at (t .topped .grows (6 - client-of b (i + 1)) (omega (arith, o .low i l)) (rw (here, back) stays)) in
           omega (arith, s .covers i l stands, t .kept i (inl (omega (arith, o .few))), t .kept (159 + (7 - client-of b (i + 1))) (inr (omega arith)), grown);
     }

@@ -5,3 +5,4 @@ pub mod Answers
 pub mod Hours
 pub mod Ceilings
 pub mod Choices
+pub mod Passing

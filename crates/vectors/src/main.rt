@@ -7,7 +7,7 @@ mod text;
 
 use libc::STDIN_FILENO;
 use libc::STDOUT_FILENO;
-ghost use Prim.Native.Nat.{_≤_, _<_};
+ghost use Prim.Native.Nat.{_<_};
 ghost use lib.ListN.{length};
 
 // Prints the answer to the line that begins at a place, and says where the next one begins.

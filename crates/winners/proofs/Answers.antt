@@ -1,6 +1,6 @@
 -- The answers of the σ table, each as the record that its contract asks. Cited by the proof of src/table.rt. Assumes nothing.
 use mathlib.Core.Path.{_≡_, sym, ap, _∙_}
-use mathlib.Core.Bool.{Bool, true, false, _&&_, cond, true≢false}
+use mathlib.Core.Bool.{Bool, true, false, _&&_, cond, true≢false, and-eq-true-iff}
 use mathlib.Core.List.{List}
 use mathlib.Core.Logic.{⊎-elim}
 use Prim.Native.Nat.{ℕ, _^_, _≤_, _<_}
@@ -14,7 +14,7 @@ use Rattle.book.specs.Layout.{n-of, book-in}
 use Rattle.book.specs.Questions.{book-refusal}
 use Rattle.book.specs.Sound.{Sound}
 use Rattle.book.proofs.Soundness.{sound}
-use Rattle.market.proofs.Bools.{either, and-parts}
+use Rattle.market.proofs.Bools.{either}
 use Rattle.combinations.specs.Greatest.{greatest}
 use Rattle.combinations.specs.Surplus.{surplus}
 use Rattle.combinations.proofs.Surplus.{surplus-is}
@@ -35,7 +35,7 @@ module _ (bs cs : List ℕ) (w : ℕ) where
   unfolding list-good
   list-short s n =
       ⊎-elim
-      (λ (y : (leb w 6 && rising-to (n-of bs) 0 (take w cs)) ≡ true). let (few, rises) = and-parts (leb w 6) _ y in
+      (λ (y : (leb w 6 && rising-to (n-of bs) 0 (take w cs)) ≡ true). let (few, rises) = and-eq-true-iff (leb w 6) _ .0 y in
       absurd (true≢false (sym (rw (few, rising-more (n-of bs) 6 0 (take w cs) (s .n-high) rises)) ∙ n)))
       (λ (z : (leb w 6 && rising-to (n-of bs) 0 (take w cs)) ≡ false). z)
       (either (leb w 6 && rising-to (n-of bs) 0 (take w cs)))
@@ -56,7 +56,7 @@ module _ (bs cs : List ℕ) (w : ℕ) where
       → Surpluses-are bs cs w 0 v sigma
   unfolding list-refusal list-good surplus-table
   surpluses-found v sigma e h ev es =
-      let few : w ≤ 6 = leb-true w 6 (and-parts (leb w 6) _ h .0) in
+      let few : w ≤ 6 = leb-true w 6 (and-eq-true-iff (leb w 6) _ .0 h .0) in
       record {
         numbered = rw (e, h);
         valued = rw (e, h) ev;

@@ -9,7 +9,7 @@ use lib.Dec.{eqb, lit<}
 use lib.ListN.{length, getD, take, set, replicate}
 use lib.Pow.{pow-add, pow-mono, shl-exact}
 use lib.Seq.{getD-set-same, getD-set-other}
-use Rattle.sets.specs.Sets.{has, set-of}
+use Rattle.sets.specs.Sets.{set-of}
 use Rattle.sets.proofs.Members.{has-above, has-last, has-same}
 use Rattle.sets.proofs.Prefixes.{prefix-length, prefix-at}
 use Rattle.market.specs.Market.{at}

@@ -1,7 +1,7 @@
 -- Which clients a set picks from a list, in a loop's steps, and the discard byte that says the same. Cited by the proofs of src/lists.rt
 -- and src/table.rt. Assumes nothing.
 use mathlib.Core.Path.{_≡_, refl, sym, ap, fun-ext, _∙_}
-use mathlib.Core.Bool.{Bool, true, false, _&&_, _||_, and-false, or-true, or-false, false≢true}
+use mathlib.Core.Bool.{Bool, true, false, _&&_, _||_, and-false, or-true, or-false, false≢true, and-eq-true-iff}
 use mathlib.Core.List.{List, [], _∷_}
 use mathlib.Core.Logic.{⊎-elim, _≢_}
 use Prim.Native.Nat.{ℕ, zero, suc, _+_, _-_, _^_, _≤_, _<_}
@@ -17,7 +17,7 @@ use Rattle.sets.specs.Sets.{has, set-of}
 use Rattle.sets.proofs.Prefixes.{prefix-length, prefix-at}
 use Rattle.sets.proofs.Members.{has-zero, has-set-of, set-of-lt, set-of-add, has-above}
 use Rattle.market.specs.Market.{at}
-use Rattle.market.proofs.Bools.{either, and-parts}
+use Rattle.market.proofs.Bools.{either}
 use Rattle.combinations.specs.Greatest.{discarded}
 use Rattle.combinations.specs.Surplus.{any, picked}
 use Rattle.combinations.proofs.Surplus.{picked-true}
@@ -29,12 +29,12 @@ pub rising-range : (n c : ℕ) (xs : List ℕ) → rising-to n c xs ≡ true →
 unfolding rising-to
 rising-range n c [] t j l = absurd (omega arith)
 rising-range n c (x ∷ xs) t zero l =
-    let p = and-parts (ltb c x && leb x n) _ t in
-    let q = and-parts (ltb c x) (leb x n) (p .0) in
+    let p = and-eq-true-iff (ltb c x && leb x n) _ .0 t in
+    let q = and-eq-true-iff (ltb c x) (leb x n) .0 (p .0) in
     (ltb-true c x (q .0), leb-true x n (q .1))
 rising-range n c (x ∷ xs) t (suc j) l =
-    let p = and-parts (ltb c x && leb x n) _ t in
-    let q = and-parts (ltb c x) (leb x n) (p .0) in
+    let p = and-eq-true-iff (ltb c x && leb x n) _ .0 t in
+    let q = and-eq-true-iff (ltb c x) (leb x n) .0 (p .0) in
     let r = rising-range n x xs (p .1) j (le-of-suc-le-suc l) in
     (omega (arith, ltb-true c x (q .0)), r .1)
 
@@ -43,16 +43,16 @@ rising-apart : (n c : ℕ) (xs : List ℕ) → rising-to n c xs ≡ true → (i 
 unfolding rising-to
 rising-apart n c [] t i j k l = absurd (omega arith)
 rising-apart n c (x ∷ xs) t i zero k l = absurd (omega arith)
-rising-apart n c (x ∷ xs) t zero (suc j) k l = rising-range n x xs (and-parts (ltb c x && leb x n) _ t .1) j (le-of-suc-le-suc l) .0
-rising-apart n c (x ∷ xs) t (suc i) (suc j) k l = rising-apart n x xs (and-parts (ltb c x && leb x n) _ t .1) i j (le-of-suc-le-suc k) (le-of-suc-le-suc l)
+rising-apart n c (x ∷ xs) t zero (suc j) k l = rising-range n x xs (and-eq-true-iff (ltb c x && leb x n) _ .0 t .1) j (le-of-suc-le-suc l) .0
+rising-apart n c (x ∷ xs) t (suc i) (suc j) k l = rising-apart n x xs (and-eq-true-iff (ltb c x && leb x n) _ .0 t .1) i j (le-of-suc-le-suc k) (le-of-suc-le-suc l)
 
 -- a list that rises to n rises to any more
 pub rising-more : (n m c : ℕ) (xs : List ℕ) → n ≤ m → rising-to n c xs ≡ true → rising-to m c xs ≡ true
 unfolding rising-to
 rising-more n m c [] h t = t
 rising-more n m c (x ∷ xs) h t =
-    let p = and-parts (ltb c x && leb x n) _ t in
-    let q = and-parts (ltb c x) (leb x n) (p .0) in
+    let p = and-eq-true-iff (ltb c x && leb x n) _ .0 t in
+    let q = and-eq-true-iff (ltb c x) (leb x n) .0 (p .0) in
     rw (q .0, le-leb x m (le-trans (leb-true x n (q .1)) h)) (rising-more n m x xs h (p .1))
 
 -- no place that passes

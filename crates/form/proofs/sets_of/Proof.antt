@@ -1,7 +1,7 @@
 -- `form::sets_of` meets its contract: up to six, the shift loses no bit. Assumes nothing.
-use mathlib.Core.Path.{refl, sym, _∙_}
-use Prim.Native.Nat.{_≤_, min}
-use native.Mathlib.Nat.{min-le-right, le-trans, le-of-eq}
+use mathlib.Core.Path.{refl}
+use Prim.Native.Nat.{min}
+use native.Mathlib.Nat.{min-le-right}
 use lib.Pow.{pow-pos}
 use Rattle.ranges.proofs.Steps.{power-shift, power-most}
 use borrow.Author.Needs.{needs}

@@ -9,9 +9,6 @@ use Rattle.book.specs.Bytes.{field}
 use Rattle.book.proofs.Fields.{field-past, field-next, digit-below, digit-fits}
 use Rattle.book.proofs.bytes.number_at.Statement.{statement}
 use Rattle.book.proofs.bytes.number_at.Tie as tie
-use Rattle.book.proofs.bytes.number_at.Reads as reads
-use Rattle.book.proofs.bytes.number_at.Lts as lts
-use Rattle.book.proofs.bytes.byte_at.Reads as byte-at-reads
 
 abbrev Inv-loop : tie.InvT-loop
 Inv-loop bytes at n v₀ i₀ v i = (i ≤ n) × (v ≡ field at i bytes) × (v < 256 ^ i)

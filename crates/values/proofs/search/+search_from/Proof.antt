@@ -2,9 +2,8 @@
 -- passed, from the floor, in every market that the array lays out. Assumes nothing.
 use borrow.Author.Needs.{needs}
 use mathlib.Core.Path.{_≡_, refl, sym, _∙_}
-use mathlib.Core.List.{List}
 use mathlib.Core.Logic.{⊎-elim}
-use mathlib.Core.Bool.{cond}
+use mathlib.Core.Bool.{cond, and-eq-true-iff}
 use Prim.Native.Nat.{ℕ, _+_, _*_, _-_, _≤_, _<_, max}
 use native.Mathlib.Nat.{le-trans, max-eq-left}
 use native.Mathlib.Omega.{arith}
@@ -12,12 +11,11 @@ use borrow.Author.Tests.{lt-ltb, le-ltb}
 use lib.Dec.{ltb}
 use lib.ListN.{getD}
 use Rattle.market.specs.Market.{Market, less}
-use Rattle.market.specs.Greatest.{choose}
-use Rattle.market.proofs.Bools.{and-parts}
-use Rattle.values.specs.Needs.{Left, Head, Looked, weight-in}
+use Rattle.values.specs.Needs.{Head, Looked, weight-in}
 use Rattle.values.proofs.Hours.{fit-here, left-after}
 use Rattle.values.proofs.Ceilings.{owned-inside, ceiling-left, few-fits, raised-few, some-left}
-use Rattle.values.proofs.Choices.{At-own, at-own-first, at-own-next, chosen-first, chosen-next, chosen-taken, chosen-left, reached, search-done, turn-next, weight-at}
+use Rattle.values.proofs.Choices.{at-own-first, chosen-first, chosen-taken, chosen-left, reached, search-done, turn-next, weight-at}
+use Rattle.values.proofs.Passing.{Own, Found, own-next, found-next}
 use borrow.Fn.Kinds.{In}
 use borrow.Fn.PlainCycle.{Measures, is, falls, and}
 use Rattle.values.proofs.search.search_from.Reads as search-from
@@ -46,14 +44,6 @@ told t = (
   below-turn t,
   search-from.Post,
 )
-
--- what is found among the first i bids, in a market that is laid out
-abbrev Found : (ahead used floor : ℕ) → (looks : List ℕ) → (top i : ℕ) → Type 0
-Found ahead used floor looks top i =
-    (m : Market) (k : ℕ) (ls : List ℕ) → Looked m k looks → Left k ls used → top ≡ choose m (weight-in looks) i (7 - ahead) ls floor (reached m (weight-in looks) ahead)
-
-abbrev Own : (ahead : ℕ) → (looks : List ℕ) → (i : ℕ) → Type 0
-Own ahead looks i = (m : Market) (k : ℕ) → Looked m k looks → At-own m (7 - ahead) i
 
 abbrev Inv-loop : lts.InvT-loop
 Inv-loop ahead used floor looks most fewer rest top₀ i₀ top i = (top ≤ max floor (ahead * 4294967295)) × Own ahead looks i × Found ahead used floor looks top i
@@ -137,18 +127,6 @@ loop-less-2 t c =
     let within = inside t (c .before .before .before .before .before .before) in
     omega (arith, within, c .before .before .before .before .before .before .before .before .before .before .before .before .pre .1 .0 .rises (l .i) within)
 
--- the next bid is the client's own, and the choice among the bids before it is that among one bid more
-own-next : (ahead : ℕ) (looks : List ℕ) (i : ℕ) → 1 ≤ 7 - ahead → i < 48 → Own ahead looks i → Own ahead looks (getD looks (96 + i) 0)
-own-next ahead looks i one within own m k h =
-    let at = own m k h in
-    at-own-next m (7 - ahead) i _ within at (h .linked i (omega arith) (owned-inside m (7 - ahead) i (h .owned) one (at .own within)))
-
-found-next : (ahead used floor : ℕ) (looks : List ℕ) (now i : ℕ) → 1 ≤ 7 - ahead → i < 48 → Own ahead looks i → Found ahead used floor looks now (i + 1)
-    → Found ahead used floor looks now (getD looks (96 + i) 0)
-found-next ahead used floor looks now i one within own found m k ls h l =
-    let at = own m k h .own within in
-    chosen-next m (7 - ahead) ls (weight-in looks) floor _ i _ now at (h .linked i (omega arith) (owned-inside m (7 - ahead) i (h .owned) one at)) (found m k ls h l)
-
 loop-again : (t : ℕ) → lts.Need-loop-again (told t) (at-turn t) search-from.Post Inv-loop μ-loop
 loop-again t c =
     let l = c .before .before .before .before .before .before .before .before .before .loop in
@@ -162,7 +140,7 @@ loop-again t c =
     let raise = c .before .before .before .may-raise .ensures in
     let weight = getD (a .looks .now) (l .i) 0 in
     let next = getD (a .looks .now) (152 + (a .ahead - 1)) 0 in
-    let fitting = and-parts (ltb (l .top) (weight + next)) _ (sym raise ∙ c .before .before .if3 .taken) .1 in (
+    let fitting = and-eq-true-iff (ltb (l .top) (weight + next)) _ .0 (sym raise ∙ c .before .before .if3 .taken) .1 in (
       raised-few (a .ahead) (a .floor) (l .top) weight (c .before .excess .result) (c .search-from .result) _ there (s .pre .1 .0 .weights-few (l .i) within) refl (c .before .excess .ensures) (c .search-from .ensures .0) (l .inv .0),
       own-next (a .ahead) (a .looks .now) (l .i) one within (l .inv .1),
       found-next (a .ahead) (a .used) (a .floor) (a .looks .now) _ (l .i) one within (l .inv .1)

@@ -2,10 +2,9 @@
 use borrow.Author.Needs.{needs}
 use borrow.Author.Tests.{leb-true, not-true, not-false}
 use mathlib.Core.Path.{_≡_, sym, _∙_}
-use mathlib.Core.Bool.{true}
+use mathlib.Core.Bool.{true, and-eq-true-iff}
 use native.Mathlib.Omega.{arith}
 use lib.Dec.{leb}
-use Rattle.market.proofs.Bools.{and-parts}
 use Rattle.combinations.proofs.Refusals.{refusal-none}
 use Rattle.winners.specs.Needs.{Listed}
 use Rattle.winners.specs.Surpluses.{list-good}
@@ -17,7 +16,7 @@ use Rattle.winners.proofs.table.surpluses.Tie as tie
 -- the list rises to 6
 listed : (c : tie.Else1) → let a = c .before .before .before .args in Listed (a .clients) (a .count)
 listed c =
-    let (few, rises) = and-parts (leb (c .before .before .before .args .count) 6) _ (sym (c .before .is-rising .ensures) ∙ not-false _ (c .if1 .left)) in
+    let (few, rises) = and-eq-true-iff (leb (c .before .before .before .args .count) 6) _ .0 (sym (c .before .is-rising .ensures) ∙ not-false _ (c .if1 .left)) in
     record { few = leb-true _ 6 few; rising = rises }
 
 -- the list rises to the book's clients
