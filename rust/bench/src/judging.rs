@@ -8,8 +8,8 @@ use crate::timing::{work, Rounds};
 use certifier::Prices;
 use std::hint::black_box;
 
-/// In how many forms a call is judged.
-const FORMS: u64 = 64;
+/// In how many forms a call is judged that is refused.
+const FORMS: u64 = 16;
 
 /// Our time for judging calls over that of the program in Rust; both must answer alike, with this number.
 fn ratio(what: &str, inputs: &[Vec<u8>], number: u32) -> f64 {
@@ -28,7 +28,7 @@ pub fn accepted_table() {
     println!("{:22}{:>10}{:>10}", "kind of book", "winners", "ratio");
     for kind in KINDS {
         let call = Call::of_kind(&kind);
-        let inputs: Vec<Vec<u8>> = call.forms(FORMS).iter().map(Call::input).collect();
+        let inputs: Vec<Vec<u8>> = call.forms(kind.many).iter().map(Call::input).collect();
         let ratio = ratio(kind.name, &inputs, 0);
         println!("{:22}{:>10}{ratio:>10.2}", kind.name, call.sheet.winners.len());
     }

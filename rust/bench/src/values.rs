@@ -6,9 +6,7 @@ use crate::shape::Shape;
 use crate::{branch, copied, plain, questions, search};
 use std::hint::black_box;
 
-/// How many books of a kind a turn goes through: so many that a processor cannot learn their branches by heart.
-const MANY: u64 = 64;
-/// How many where a program takes much longer than ours.
+/// How many books a turn goes through where a program takes much longer than ours.
 const FEW: u64 = 2;
 /// How often the kinds take their turn, so that what else the machine does for a second or two does not fall on one of them.
 const PASSES: u32 = 4;
@@ -88,7 +86,7 @@ struct Measured {
 impl Measured {
     /// Every way must answer alike.
     fn of(kind: Kind) -> Measured {
-        let (many, few) = (kind.books(MANY), kind.books(FEW));
+        let (many, few) = (kind.books(kind.many), kind.books(FEW));
         assert_alike(kind.name, &many, WAYS);
         assert_alike(kind.name, &few, SLOW);
         Measured { kind, many, few, rounds_of_many: Rounds::default(), rounds_of_few: Rounds::default() }
