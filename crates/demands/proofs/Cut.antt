@@ -103,7 +103,7 @@ module _ (N : ℕ) (bs : List ℕ) (l : longest-call < N) where
             ∙ ap (λ (n : ℕ). drop (book-long bs) (take n bs)) whole ∙ drop-take (book-long bs) (N - book-long bs) bs,
       )
 
-  sound-cut : book-refusal bs ≡ 0 → book-in (take N bs) ≡ book-in bs
+  pub sound-cut : book-refusal bs ≡ 0 → book-in (take N bs) ≡ book-in bs
   sound-cut h = book-cut N bs (omega arith) (questions bs h .two)
 
   pub number-cut : input-refusal (take N bs) ≡ input-refusal bs
@@ -118,7 +118,7 @@ module _ (N : ℕ) (bs : List ℕ) (l : longest-call < N) where
       (either (eqb (book-refusal bs) 0))
 
   -- an accepted input's sheet is not cut
-  sheet-cut : Accepted bs → sheet-part (take N bs) ≡ sheet-part bs
+  pub sheet-cut : Accepted bs → sheet-part (take N bs) ≡ sheet-part bs
   sheet-cut a =
       let p = accepted-passed bs a in
       let (M, long, part) = part-cut (p .sound) in

@@ -1,60 +1,20 @@
--- Arrays filled from a function, number after number, over zeros: where the first i are in, the array reads as the numbers of i winners.
--- Sets are the same with 0 for the empty one. Cited by the proofs of the loops that fill arrays. Assumes nothing.
-use mathlib.Core.Path.{_≡_, refl, sym, ap, subst, _∙_, fun-ext}
+-- An array filled up to w reads as a number of each of w winners; sets are the same with 0 for the empty one. Cited by the proofs of the
+-- loops that fill arrays. Assumes nothing.
+use mathlib.Core.Path.{_≡_, refl, ap, fun-ext}
 use mathlib.Core.Bool.{Bool, true, false, cond, _&&_}
 use mathlib.Core.List.{List}
-use Prim.Native.Nat.{ℕ, zero, suc, _+_, _^_, _≤_, _<_}
+use Prim.Native.Nat.{ℕ, _^_, _≤_}
 use native.Mathlib.Nat.{le-antisymm}
-use native.Mathlib.Decide.{decLt, ℕ-discrete}
-use native.Mathlib.Omega.{arith}
 use lib.Dec.{leb, ltb}
-use lib.ListN.{getD, set, replicate, length-set, length-replicate}
-use lib.Seq.{getD-set-same, getD-set-other}
 use borrow.Author.Tests.{le-leb}
+use Rattle.sets.proofs.Filled.{Filled}
+use Rattle.sets.proofs.Tables.{filled-entry}
 use Rattle.ranges.specs.Figures.{at}
 use Rattle.demands.specs.Sheet.{of-winner, of-set}
-use Rattle.demands.proofs.Sheet.{of-winner-at, of-winner-past}
-use Rattle.sheet.specs.Columns.{Filled}
 
--- zeros read as 0, also past the last
-pub zeros-at : (n k : ℕ) → at (replicate n 0) k ≡ 0
-zeros-at zero k = refl
-zeros-at (suc n) zero = refl
-zeros-at (suc n) (suc k) = zeros-at n k
-
-module _ (f : ℕ → ℕ) where
-  -- nothing is in yet, but what is 0
-  pub filled-none : (n i : ℕ) → ((k : ℕ) → k < i → f k ≡ 0) → Filled n i f (replicate n 0)
-  filled-none n i none = record { long = length-replicate n 0; reads = fun-ext (λ k. zeros-at n k ∙ sym (each k)) }
-    where
-      each : (k : ℕ) → of-winner i f k ≡ 0
-      each k = elim (decLt k i) [ yes l ↦ of-winner-at i f k l ∙ none k l | no g ↦ of-winner-past i f k (omega arith) ]
-
-  -- the next one leaves the others as they are
-  further : (i k : ℕ) → (k ≡ i → ⊥) → of-winner i f k ≡ of-winner (i + 1) f k
-  further i k d =
-      elim (decLt k i) [
-        | yes b ↦ of-winner-at i f k b ∙ sym (of-winner-at (i + 1) f k (omega arith))
-        | no g ↦ of-winner-past i f k (omega arith) ∙ sym (of-winner-past (i + 1) f k (omega arith))
-      ]
-
-  -- the next one is put in
-  pub filled-more : {n i v : ℕ} (xs : List ℕ) → i < n → v ≡ f i → Filled n i f xs → Filled n (i + 1) f (set xs i v)
-  filled-more {n} {i} {v} xs l e h = record { long = length-set xs i v ∙ h .long; reads = fun-ext each }
-    where
-      same : getD (set xs i v) i 0 ≡ of-winner (i + 1) f i
-      same = getD-set-same xs i v 0 (omega (arith, h .long)) ∙ e ∙ sym (of-winner-at (i + 1) f i (omega arith))
-
-      each : (k : ℕ) → getD (set xs i v) k 0 ≡ of-winner (i + 1) f k
-      each k =
-          elim (ℕ-discrete k i) [
-            | yes s ↦ rw s same
-            | no d ↦ getD-set-other xs i k v 0 d ∙ ap (λ (g : ℕ → ℕ). g k) (h .reads) ∙ further i k d
-          ]
-
-  -- all are in
-  pub filled-all : {n i w : ℕ} {xs : List ℕ} → i ≤ w → w ≤ i → Filled n i f xs → Filled n w f xs
-  filled-all {n} {i} {w} {xs} a b h = subst (λ (j : ℕ). Filled n j f xs) (le-antisymm a b) h
+pub filled-reads : (n : ℕ) (f : ℕ → ℕ) (i w : ℕ) (xs : List ℕ) → i ≤ w → w ≤ i → Filled n f i xs → at xs ≡ of-winner w f
+unfolding of-winner
+filled-reads n f i w xs a b h = rw (le-antisymm b a) (fun-ext (filled-entry n f i xs h))
 
 -- A NUMBER OF EACH SET: 0 for the empty one
 unfoldable pub non-empty : (f : ℕ → ℕ) → (set : ℕ) → ℕ
@@ -65,10 +25,9 @@ module _ (f : ℕ → ℕ) where
   unfolding non-empty
   non-empty-at L l = ap (λ (b : Bool). cond b (f L) 0) (le-leb 1 L l)
 
-  pub empty-none : (L : ℕ) → L < 1 → non-empty f L ≡ 0
+  pub empty-none : non-empty f 0 ≡ 0
   unfolding non-empty
-  empty-none zero l = refl
-  empty-none (suc L) l = absurd (omega arith)
+  empty-none = refl
 
   pub sets-filled : (w : ℕ) → of-winner (2 ^ w) (non-empty f) ≡ of-set w f
   unfolding of-winner of-set non-empty

@@ -2,14 +2,14 @@
 use mathlib.Core.Path.{_≡_, refl, sym, ap, _∙_}
 use mathlib.Core.Bool.{Bool, true, false, cond}
 use mathlib.Core.List.{List}
-use Prim.Native.Nat.{ℕ, _+_}
+use Prim.Native.Nat.{ℕ}
 use native.Mathlib.Omega.{arith}
 use lib.ListN.{replicate}
-use Rattle.book.specs.Bytes.{byte, bytes-at}
+use Rattle.book.specs.Bytes.{bytes-at}
 use Rattle.ranges.specs.declared.Figures.{Figures}
 use Rattle.ranges.specs.Figures.{certificate}
 use Rattle.demands.specs.Sheet.{sheet-w, numbers-in, sheet-in}
-use Rattle.sheet.specs.Columns.{Filled}
+use Rattle.sheet.specs.Columns.{Bids-read}
 use Rattle.form.specs.Form.{few-good}
 use Rattle.sheet.specs.Reading.{six-of, zero-figures, Sheet-read}
 use Rattle.form.proofs.Formed.{few-form, few-winners}
@@ -28,7 +28,7 @@ module _ (part : List ℕ) (n : ℕ) where
       }
 
   pub sheet-read : (w : ℕ) (bids : List ℕ) (f : Figures) → few-good n part ≡ true → w ≡ sheet-w part
-      → Filled 6 w (λ j. byte (4 + j) part) bids → certificate f ≡ numbers-in w part
+      → Bids-read w part bids → certificate f ≡ numbers-in w part
       → Sheet-read part n (record { number = 0; bids = bids; figures = f })
   unfolding sheet-in
   sheet-read w bids f form count each numbers =

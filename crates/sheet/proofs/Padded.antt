@@ -7,15 +7,15 @@ use native.Mathlib.Decide.{decLt}
 use native.Mathlib.Omega.{arith}
 use lib.ListN.{length, replicate, length-append, length-replicate, List·getD-eq-default}
 use lib.Seq.{ext-getD}
+use Rattle.sets.proofs.Filled.{zeros-at}
 use Rattle.book.specs.Bytes.{byte, bytes-at}
 use Rattle.book.proofs.Next.{bytes-length}
 use Rattle.book.proofs.Places.{bytes-entry}
 use Rattle.ranges.specs.Figures.{at}
 use Rattle.demands.specs.Sheet.{of-winner}
 use Rattle.demands.proofs.Sheet.{of-winner-at, of-winner-past}
-use Rattle.sheet.specs.Columns.{Filled}
+use Rattle.sheet.specs.Columns.{Bids-read}
 use Rattle.sheet.specs.Reading.{six-of}
-use Rattle.sheet.proofs.Filled.{zeros-at}
 
 pub padded-at : (xs : List ℕ) (n k : ℕ) → at (xs ++ replicate n 0) k ≡ at xs k
 padded-at [] n k = zeros-at n k
@@ -40,7 +40,7 @@ bytes-each w from bs k =
           ∙ sym (of-winner-past w (λ j. byte (from + j) bs) k (omega arith))
     ]
 
-pub bids-six : (w : ℕ) (bs r : List ℕ) → w ≤ 6 → Filled 6 w (λ j. byte (4 + j) bs) r → r ≡ six-of (bytes-at w 4 bs)
+pub bids-six : (w : ℕ) (bs r : List ℕ) → w ≤ 6 → Bids-read w bs r → r ≡ six-of (bytes-at w 4 bs)
 bids-six w bs r l b =
     ext-getD 0 r (six-of xs) (b .long ∙ sym (six-length xs (omega (arith, bytes-length w 4 bs))))
     (λ k s. ap (λ (g : ℕ → ℕ). g k) (b .reads) ∙ sym (bytes-each w 4 bs k) ∙ sym (six-at xs k))

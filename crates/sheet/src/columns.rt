@@ -2,8 +2,8 @@
 use book::bytes;
 ghost use mathlib.Core.Path.{_≡_};
 ghost use Prim.Native.Nat.{_+_, _≤_};
-ghost use Rattle.book.specs.Bytes.{byte, field};
-ghost use Rattle.sheet.specs.Columns.{width, Column, Filled, Winners-read, Sets-read};
+ghost use Rattle.book.specs.Bytes.{field};
+ghost use Rattle.sheet.specs.Columns.{width, Column, Bids-read, Winners-read, Sets-read};
 
 // The number at a place: in eight bytes where it is wide, else in four.
 pub(crate) fn number_at(part: &[u8], place: usize, wide: bool) -> u64
@@ -19,7 +19,7 @@ pub(crate) fn number_at(part: &[u8], place: usize, wide: bool) -> u64
 // The bid numbers of w winners.
 pub(crate) fn bids_of(part: &[u8], w: usize) -> [u8; 6]
     requires { ⌜ w ≤ 6 ⌝ }
-    ensures { λ r. ⌜ Filled 6 w (λ j. byte (4 + j) (now (part .entry))) r ⌝ }
+    ensures { λ r. ⌜ Bids-read w (now (part .entry)) r ⌝ }
 {
     let mut bids = [0; 6];
     let mut j = 0;

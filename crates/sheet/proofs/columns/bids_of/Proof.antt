@@ -2,26 +2,28 @@
 use Prim.Native.Nat.{_+_, _-_, _≤_}
 use native.Mathlib.Omega.{arith}
 use Rattle.book.specs.Bytes.{byte}
-use Rattle.sheet.specs.Columns.{Filled}
-use Rattle.sheet.proofs.Filled.{filled-none, filled-more, filled-all}
+use Rattle.sets.proofs.Filled.{Filled, filled-none, filled-next}
+use Rattle.sheet.proofs.Filled.{filled-reads}
 use borrow.Author.Needs.{needs}
 use Rattle.sheet.proofs.columns.bids_of.Statement.{statement}
 use Rattle.sheet.proofs.columns.bids_of.Tie as tie
 
 abbrev Inv-loop : tie.InvT-loop
-Inv-loop part w bids₀ j₀ bids j = (j ≤ w) × Filled 6 j (λ k. byte (4 + k) part) bids
+Inv-loop part w bids₀ j₀ bids j = (j ≤ w) × Filled 6 (λ k. byte (4 + k) part) j bids
 
 abbrev μ-loop : tie.MeasureT-loop
 μ-loop part w bids₀ j₀ bids j = w - j
 
 loop-holds : tie.Need-loop-holds Inv-loop μ-loop
-loop-holds c = (search needs, filled-none _ 6 0 (λ k l. absurd (omega arith)))
+loop-holds c = (search needs, filled-none _ _)
 
 loop-again : tie.Need-loop-again Inv-loop μ-loop
-loop-again c = (search needs, filled-more _ _ (omega arith) (c .byte-at .ensures) (c .before .before .loop .inv .1))
+loop-again c = (search needs, filled-next _ _ _ _ _ (omega arith) (c .byte-at .ensures) (c .before .before .loop .inv .1))
 
 returns : tie.Need-returns Inv-loop μ-loop
-returns c = filled-all _ (c .before .loop .inv .0) (c .loop-test .left) (c .before .loop .inv .1)
+returns c =
+    let l = c .before .loop in
+    record { long = l .inv .1 .long; reads = filled-reads _ _ _ _ _ (l .inv .0) (c .loop-test .left) (l .inv .1) }
 
 pub bids-of-spec : {M : Type 1} → statement M
 bids-of-spec =
