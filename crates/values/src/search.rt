@@ -18,7 +18,7 @@ fn beats(most: u64, top: u64) -> bool
     top < most
 }
 
-// Whether a bid can raise the best, by the most that it can come to, and fits: every guard is clear of what would be used.
+// Whether a bid can raise the best, by the most that it can come to, and fits: no guard is set in what would be used.
 fn may_raise(after: u64, top: u64, most: u64) -> bool
     ensures { λ r. ⌜ r ≡ (ltb top most && eqb (bitAnd after 72058693566333184) 0) ⌝ }
 {
