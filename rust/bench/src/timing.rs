@@ -7,7 +7,7 @@ use std::time::{Duration, Instant};
 /// A turn is short, so that few are broken into by other work on the machine.
 const TURN: Duration = Duration::from_micros(400);
 /// What some rounds may take for each work.
-const BUDGET: Duration = Duration::from_millis(20);
+const BUDGET: Duration = Duration::from_millis(12);
 
 /// A piece of work: done so many times, it gives the time that took.
 pub type Work<'a> = Box<dyn Fn(u32) -> Duration + 'a>;
