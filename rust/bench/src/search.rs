@@ -1,12 +1,14 @@
 //! The same search as one would write it in Rust, with its bounds checks: links, weights and hours once, then for each set its ceilings, and the
-//! clients left, from a floor. Hours of up to four kinds are one number, a lane of 16 bits for each; what is left has a guard bit above each lane's byte, which is gone from the
-//! difference where more is asked than is left.
+//! clients left, from a floor. Hours of up to four kinds are one number, a lane of 16 bits for each. Instead of the hours left there are those used,
+//! 255 less those left, so that more is asked than is left where a lane goes over 255 and its guard bit is set.
 
 use crate::questions;
 use crate::shape::Shape;
 
 const NONE: usize = 48;
 const GUARDS: u64 = 0x0100_0100_0100_0100;
+/// Every lane at 255: nothing is left.
+const FULL: u64 = 0x00ff_00ff_00ff_00ff;
 
 /// What the search looks up, whoever is discarded. Clients are numbered by how many there are from each to the sixth: the turns left.
 struct Lookups {
@@ -51,7 +53,7 @@ fn ceilings(discard: u8, most: &[u64; 7]) -> Tops {
 
 type Tops = [u64; 7];
 
-fn search(l: &Lookups, tops: &Tops, ahead: usize, left: u64, floor: u64) -> u64 {
+fn search(l: &Lookups, tops: &Tops, ahead: usize, used: u64, floor: u64) -> u64 {
     if tops[ahead] <= floor {
         return floor;
     }
@@ -60,38 +62,38 @@ fn search(l: &Lookups, tops: &Tops, ahead: usize, left: u64, floor: u64) -> u64 
     let mut i = if ceiling < tops[ahead] { l.links[48 + ahead] } else { NONE };
     while i < NONE {
         let weight = l.weights[i];
-        let after = left - l.hours[i];
-        if top < weight + ceiling && after & GUARDS == GUARDS {
+        let after = used + l.hours[i];
+        if top < weight + ceiling && after & GUARDS == 0 {
             let more = search(l, tops, ahead - 1, after, top.saturating_sub(weight));
             top = top.max(weight + more);
         }
         i = l.links[i];
     }
-    search(l, tops, ahead - 1, left, top)
+    search(l, tops, ahead - 1, used, top)
 }
 
-/// The hours for sale, guarded.
-fn for_sale(shape: &Shape) -> u64 {
-    in_lanes(&shape.supply()) + GUARDS
+/// The hours used before any bid is taken.
+fn used_first(shape: &Shape) -> u64 {
+    FULL - in_lanes(&shape.supply())
 }
 
-fn greatest_by(lookups: &Lookups, left: u64, discard: u8) -> u64 {
+fn greatest_by(lookups: &Lookups, used: u64, discard: u8) -> u64 {
     let tops = ceilings(discard, &lookups.most);
-    search(lookups, &tops, 6, left, 0)
+    search(lookups, &tops, 6, used, 0)
 }
 
 /// The greatest value with clients discarded.
 pub fn greatest(shape: &Shape, discard: u8) -> u64 {
-    greatest_by(&look_up(shape), for_sale(shape), discard)
+    greatest_by(&look_up(shape), used_first(shape), discard)
 }
 
 /// The greatest values with each of the sets of clients discarded, looked up once.
 pub fn greatest_of(shape: &Shape, discards: impl Iterator<Item = u8>) -> [u64; 64] {
     let lookups = look_up(shape);
-    let left = for_sale(shape);
+    let used = used_first(shape);
     let mut values = [0; 64];
     for (value, discard) in values.iter_mut().zip(discards) {
-        *value = greatest_by(&lookups, left, discard);
+        *value = greatest_by(&lookups, used, discard);
     }
     values
 }
