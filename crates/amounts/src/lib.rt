@@ -5,7 +5,6 @@
 mod reserves;
 
 use book::bytes;
-use book::flags;
 use book::layout;
 ghost use mathlib.Core.Path.{_≡_};
 ghost use mathlib.Core.Bool.{_&&_};
@@ -27,21 +26,22 @@ fn is_amount_good(book: &[u8], k: usize, at: usize, reserves: &[u16; 4]) -> bool
     reserves::reserves_of_bid(book, k, at, reserves) <= amount
 }
 
-// Question 5 for all m bids. The loop moves a place on and counts down what is left.
+// Question 5 for all m bids. The loop moves a place on and counts down what is left, and ends with the first bid that is not good.
 fn every_amount_good(book: &[u8], k: usize, m: usize, at: usize) -> bool
     requires { ⌜ Run (now book) k m at ⌝ }
     ensures { λ r. ⌜ r ≡ all (reserves-met (kinds-in k 4 (now (book .entry)))) (bids-in m k at (now (book .entry))) ⌝ }
 {
     let reserves = reserves::reserves_of_kinds(book, k);
-    let mut ok = true;
     let mut place = at;
     let mut bids = m;
     while 0 < bids {
-        ok = flags::both(ok, is_amount_good(book, k, place, &reserves));
+        if !is_amount_good(book, k, place, &reserves) {
+            return false;
+        }
         place = place + (k + 5);
         bids = bids - 1;
     }
-    ok
+    true
 }
 
 // Question 5, of a book that passes question 2.

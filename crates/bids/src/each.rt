@@ -1,4 +1,4 @@
-// Question 4: each bid by itself. A loop moves a place on and counts down what is left.
+// Question 4: each bid by itself. A loop moves a place on and counts down what is left, and ends with the first bid that is not good.
 use book::bytes;
 use book::flags;
 ghost use mathlib.Core.Path.{_≡_};
@@ -48,13 +48,14 @@ pub(crate) fn every_bid_good(book: &[u8], n: usize, k: usize, m: usize, at: usiz
     ensures { λ r. ⌜ r ≡ all (bid-good n) (bids-in m k at (now (book .entry))) ⌝ }
 {
     let least = least_with_hours(k);
-    let mut ok = true;
     let mut place = at;
     let mut bids = m;
     while 0 < bids {
-        ok = flags::both(ok, is_bid_good(book, n, k, place, least));
+        if !is_bid_good(book, n, k, place, least) {
+            return false;
+        }
         place = place + (k + 5);
         bids = bids - 1;
     }
-    ok
+    true
 }

@@ -1,22 +1,16 @@
 -- Four lanes written out. Cited by the proofs of src/lib.rt. Assumes nothing.
-use mathlib.Core.Path.{_≡_, refl, sym, _∙_}
-use mathlib.Core.Bool.{cond}
+use mathlib.Core.Path.{_≡_, refl, ap₂, _∙_}
 use mathlib.Core.List.{List, [], _∷_}
-use Prim.Native.Nat.{ℕ, zero, suc, _+_, _*_, _-_, _≤_}
+use Prim.Native.Nat.{ℕ, zero, suc, _+_, _*_, _-_, _%_, _^_, _≤_, _<_, min}
+use native.Mathlib.Nat.{mod-eq-of-lt}
 use native.Mathlib.Omega.{arith}
 use native.Mathlib.Decide.{decLt}
-use borrow.Author.Tests.{le-leb, lt-leb}
-use lib.Dec.{leb}
+use lib.Bits.{bitAnd, and-zero-l, and-zero-r, and-mask}
 use lib.ListN.{length, getD, take, length-take, List·getD-eq-default}
-use lib.Seq.{getD-take, take-all}
-use Rattle.lanes.specs.Lanes.{packed, used, Bytes}
-
--- what a lane holds is the entry of the list that is cut to k
-lane-says : (k kind : ℕ) (xs : List ℕ) → cond (leb k kind) 0 (getD xs kind 0) ≡ getD (take k xs) kind 0
-lane-says k kind xs = elim (decLt kind k) [
-  | yes l ↦ rw (lt-leb k kind l) (sym (getD-take k xs kind 0 l))
-  | no l ↦ rw (le-leb k kind (omega arith)) (sym (List·getD-eq-default (take k xs) 0 (omega (arith, length-take k xs))))
-]
+use lib.Seq.{take-all}
+use Rattle.lanes.specs.Lanes.{packed, used, ones, Bytes}
+use Rattle.lanes.proofs.Guard.{lane-apart}
+use Rattle.lanes.proofs.Laws.{packed-most}
 
 -- at most four entries in their lanes
 packed-at : (xs : List ℕ) → length xs ≤ 4 → getD xs 0 0 + getD xs 1 0 * 65536 + getD xs 2 0 * 4294967296 + getD xs 3 0 * 281474976710656 ≡ packed xs
@@ -28,20 +22,67 @@ packed-at (a ∷ b ∷ c ∷ []) l = omega arith
 packed-at (a ∷ b ∷ c ∷ d ∷ []) l = omega arith
 packed-at (a ∷ b ∷ c ∷ d ∷ e ∷ xs) l = absurd (omega arith)
 
-pub packed-four : (k : ℕ) (xs : List ℕ) → length xs ≡ 4 → (a b c d : ℕ) → a ≡ cond (leb k 0) 0 (getD xs 0 0) → b ≡ cond (leb k 1) 0 (getD xs 1 0)
-    → c ≡ cond (leb k 2) 0 (getD xs 2 0) → d ≡ cond (leb k 3) 0 (getD xs 3 0) → a + b * 65536 + c * 4294967296 + d * 281474976710656 ≡ packed (take k xs)
-packed-four k xs e a b c d p q r s =
-    omega (arith, packed-at (take k xs) (omega (arith, length-take k xs)), p ∙ lane-says k 0 xs, q ∙ lane-says k 1 xs, r ∙ lane-says k 2 xs, s ∙ lane-says k 3 xs)
+-- the ones of k lanes are a power of 2, less 1
+pub ones-shifted : (k : ℕ) → k < 4 → (1 ≤ 1 * 2 ^ (16 * k) % 2 ^ 64) × (1 * 2 ^ (16 * k) % 2 ^ 64 - 1 ≡ ones k)
+unfolding ones
+ones-shifted zero l = (omega arith, refl)
+ones-shifted (suc zero) l = (omega arith, refl)
+ones-shifted (suc (suc zero)) l = (omega arith, refl)
+ones-shifted (suc (suc (suc zero))) l = (omega arith, refl)
+ones-shifted (suc (suc (suc (suc k)))) l = absurd (omega arith)
 
--- and each of them is a byte
-pub bytes-four : (k : ℕ) (xs : List ℕ) → length xs ≡ 4 → (a b c d : ℕ) → a ≡ cond (leb k 0) 0 (getD xs 0 0) → b ≡ cond (leb k 1) 0 (getD xs 1 0)
-    → c ≡ cond (leb k 2) 0 (getD xs 2 0) → d ≡ cond (leb k 3) 0 (getD xs 3 0) → (a ≤ 255) × (b ≤ 255) × (c ≤ 255) × (d ≤ 255) → Bytes (take k xs)
-bytes-four k xs e a b c d p q r s (la, lb, lc, ld) zero = omega (arith, p ∙ lane-says k 0 xs)
-bytes-four k xs e a b c d p q r s (la, lb, lc, ld) (suc zero) = omega (arith, q ∙ lane-says k 1 xs)
-bytes-four k xs e a b c d p q r s (la, lb, lc, ld) (suc (suc zero)) = omega (arith, r ∙ lane-says k 2 xs)
-bytes-four k xs e a b c d p q r s (la, lb, lc, ld) (suc (suc (suc zero))) = omega (arith, s ∙ lane-says k 3 xs)
-bytes-four k xs e a b c d p q r s l (suc (suc (suc (suc i)))) =
-    let z : getD (take k xs) (suc (suc (suc (suc i)))) 0 ≡ 0 = List·getD-eq-default (take k xs) 0 (omega (arith, length-take k xs)) in omega arith
+-- the lanes past the first k are cut off
+cut-off : (k : ℕ) (xs : List ℕ) → Bytes xs → bitAnd (packed xs) (ones k) ≡ packed (take k xs)
+unfolding packed ones
+cut-off zero xs b = and-zero-r (packed xs)
+cut-off (suc k) [] b = and-zero-l (ones (suc k))
+cut-off (suc k) (x ∷ xs) b =
+    let kept : bitAnd x 65535 ≡ x = and-mask x 16 ∙ mod-eq-of-lt (omega (arith, b 0)) in
+    lane-apart x 65535 (packed xs) (ones k) (omega (arith, b 0)) (omega arith) ∙ omega (arith, kept, cut-off k xs (λ i. b (suc i)))
+
+-- entries that are kept are bytes
+bytes-take : (k : ℕ) (xs : List ℕ) → Bytes xs → Bytes (take k xs)
+bytes-take zero xs b i = omega arith
+bytes-take (suc k) [] b i = b i
+bytes-take (suc k) (x ∷ xs) b zero = b 0
+bytes-take (suc k) (x ∷ xs) b (suc i) = bytes-take k xs (λ i. b (suc i)) i
+
+-- four entries, as they are read
+pub record Four (xs : List ℕ) (a b c d : ℕ) : Type 0 where
+  pub long : length xs ≡ 4
+  pub first : (a ≡ getD xs 0 0) × (a ≤ 255)
+  pub second : (b ≡ getD xs 1 0) × (b ≤ 255)
+  pub third : (c ≡ getD xs 2 0) × (c ≤ 255)
+  pub fourth : (d ≡ getD xs 3 0) × (d ≤ 255)
+
+module _ (xs : List ℕ) (a b c d : ℕ) (f : Four xs a b c d) where
+  -- each of them is a byte
+  pub bytes-four : Bytes xs
+  bytes-four zero = omega (arith, f .first)
+  bytes-four (suc zero) = omega (arith, f .second)
+  bytes-four (suc (suc zero)) = omega (arith, f .third)
+  bytes-four (suc (suc (suc zero))) = omega (arith, f .fourth)
+  bytes-four (suc (suc (suc (suc i)))) =
+      let past : getD xs (suc (suc (suc (suc i)))) 0 ≡ 0 = List·getD-eq-default xs 0 (omega (arith, f .long)) in omega arith
+
+  -- in their lanes, and of them the first k
+  kept : (k mask : ℕ) → mask ≡ ones (min k 4) → bitAnd (a + b * 65536 + c * 4294967296 + d * 281474976710656) mask ≡ packed (take k xs)
+  kept k mask e =
+      let all : a + b * 65536 + c * 4294967296 + d * 281474976710656 ≡ packed xs
+      = omega (arith, packed-at xs (omega (arith, f .long)), f .first, f .second, f .third, f .fourth) in
+      ap₂ bitAnd all e ∙ cut-off (min k 4) xs bytes-four ∙ taken
+    where
+      taken : packed (take (min k 4) xs) ≡ packed (take k xs)
+      taken = elim (decLt k 4) [
+        | yes l ↦ let same : min k 4 ≡ k = omega arith in rw same
+        | no l ↦ let all : min k 4 ≡ 4 = omega arith in rw (all, take-all 4 xs (omega (arith, f .long)), take-all k xs (omega (arith, f .long)))
+      ]
+
+  pub packed-four : (k mask : ℕ) → mask ≡ ones (min k 4)
+      → let r = bitAnd (a + b * 65536 + c * 4294967296 + d * 281474976710656) mask in (r ≡ packed (take k xs)) × (r ≤ 71777214294589695) × Bytes (take k xs)
+  packed-four k mask e =
+      let few : packed (take k xs) ≤ 71777214294589695 = packed-most (take k xs) (omega (arith, length-take k xs, f .long)) (bytes-take k xs bytes-four) in
+      (kept k mask e, omega (arith, kept k mask e), bytes-take k xs bytes-four)
 
 -- used and left make up 255 in each lane
 used-is : (n : ℕ) (ls : List ℕ) → length ls ≤ n → Bytes ls → used n ls + packed ls ≡ used n []

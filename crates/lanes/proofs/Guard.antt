@@ -20,8 +20,8 @@ guard-set byte l = blocks 8 1 1 byte 0 (256 + byte) 256 l (omega arith) (omega a
 guard-clear : (byte : ℕ) → byte < 256 → bitAnd byte 256 ≡ 0
 guard-clear byte l = blocks 8 0 1 byte 0 byte 256 l (omega arith) (omega arith) refl ∙ omega (arith, and-zero-r byte)
 
-lane-apart : (lane rest gs : ℕ) → lane < 65536 → bitAnd (lane + 65536 * rest) (256 + 65536 * gs) ≡ bitAnd lane 256 + 65536 * bitAnd rest gs
-lane-apart lane rest gs l = blocks 16 rest gs lane 256 (lane + 65536 * rest) (256 + 65536 * gs) l (omega arith) (omega arith) (omega arith) ∙ omega arith
+pub lane-apart : (lane g rest gs : ℕ) → lane < 65536 → g < 65536 → bitAnd (lane + 65536 * rest) (g + 65536 * gs) ≡ bitAnd lane g + 65536 * bitAnd rest gs
+lane-apart lane g rest gs l m = blocks 16 rest gs lane g (lane + 65536 * rest) (g + 65536 * gs) l m (omega arith) (omega arith) ∙ omega arith
 
 -- a number whose lowest guard is clear has every guard clear if and only if the lanes above have theirs clear
 clear-test : (x y : ℕ) → x ≡ 65536 * y → eqb x 0 ≡ eqb y 0
@@ -38,7 +38,7 @@ set-test x y e = ne-eqb x 0 (λ (z : x ≡ 0). omega arith)
 pub lane-test : (h l rest gs : ℕ) → h < 256 → l < 256
     → eqb (bitAnd (255 - l + h + 65536 * rest) (256 + 65536 * gs)) 0 ≡ (leb h l && eqb (bitAnd rest gs) 0)
 lane-test h l rest gs a b =
-    let apart = lane-apart (255 - l + h) rest gs (omega arith) in
+    let apart = lane-apart (255 - l + h) 256 rest gs (omega arith) (omega arith) in
     ⊎-elim
     (λ (t : leb h l ≡ true). let fit = leb-true h l t in
     clear-test _ (bitAnd rest gs) (apart ∙ omega (arith, guard-clear (255 - l + h) (omega arith))) ∙ rw t)

@@ -15,6 +15,11 @@ used zero ls = 0
 used (suc n) [] = 255 + 65536 * used n []
 used (suc n) (l ∷ ls) = 255 - l + 65536 * used n ls
 
+-- every bit of n lanes
+unfoldable pub ones : (n : ℕ) → ℕ
+ones zero = 0
+ones (suc n) = 65535 + 65536 * ones n
+
 -- every entry is a byte
 abbrev pub Bytes : List ℕ → Type 0
 Bytes xs = (i : ℕ) → getD xs i 0 < 256

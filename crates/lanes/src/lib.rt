@@ -5,29 +5,39 @@
 // What a client may cite: `packed`, the hours asked; `used`, the hours used; `fit`, whether every guard is clear. Each takes anything,
 // asks nothing of its caller, and its contract gives its result as a value. The search of the layer above cites them, with the laws of proofs/.
 ghost use mathlib.Core.Path.{_≡_};
-ghost use mathlib.Core.Bool.{cond};
-ghost use Prim.Native.Nat.{_≤_};
+ghost use Prim.Native.Nat.{_≤_, min};
 ghost use lib.Bits.{bitAnd};
-ghost use lib.Dec.{leb, eqb};
+ghost use lib.Dec.{eqb};
 ghost use lib.ListN.{take};
-ghost use Rattle.lanes.specs.Lanes.{packed, used, Bytes};
+ghost use Rattle.lanes.specs.Lanes.{packed, used, Bytes, ones};
 
-// What one kind's lane holds: its hours, or 0 past the first k kinds.
-fn lane(k: usize, kind: usize, hours: u8) -> u64
-    ensures { λ r. ⌜ (r ≡ cond (leb k kind) 0 hours) × (r ≤ 255) ⌝ }
+// What one kind's lane holds: its hours.
+fn lane(hours: u8) -> u64
+    ensures { λ r. ⌜ (r ≡ hours) × (r ≤ 255) ⌝ }
 {
-    if k <= kind { 0 } else { hours as u64 }
+    hours as u64
 }
 
-// The hours asked of the first k kinds.
+// Every bit of the first k lanes; the lanes are four.
+fn lanes_to(k: usize) -> u64
+    ensures { λ r. ⌜ r ≡ ones (min k 4) ⌝ }
+{
+    if k < 4 {
+        (1 << (16 * k)) - 1
+    } else {
+        18446744073709551615
+    }
+}
+
+// The hours asked of the first k kinds: all four are put into their lanes, and those past the first k are cut off.
 pub fn packed(k: usize, asked: [u8; 4]) -> u64
     ensures { λ r. ⌜ (r ≡ packed (take k asked)) × (r ≤ 71777214294589695) × Bytes (take k asked) ⌝ }
 {
-    let a = lane(k, 0, asked[0]);
-    let b = lane(k, 1, asked[1]);
-    let c = lane(k, 2, asked[2]);
-    let d = lane(k, 3, asked[3]);
-    a + b * 65536 + c * 4294967296 + d * 281474976710656
+    let a = lane(asked[0]);
+    let b = lane(asked[1]);
+    let c = lane(asked[2]);
+    let d = lane(asked[3]);
+    (a + b * 65536 + c * 4294967296 + d * 281474976710656) & lanes_to(k)
 }
 
 // The hours used where these are left.

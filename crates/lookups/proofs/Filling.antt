@@ -40,7 +40,7 @@ module _ (m : Market) (o : Owned m) where
 
   pub firsts-none : (xs : List ℕ) → Blank xs → Firsts m (m .bids) xs
   firsts-none xs b c a l =
-      rw (b .links (144 + (7 - c)) (omega arith)) (record { after = o .few; own = λ k. absurd (omega arith); none = λ t k n e. omega (arith, o .none t k) })
+      rw (b .links (144 + (7 - c)) (omega arith) (omega arith)) (record { after = o .few; own = λ k. absurd (omega arith); none = λ t k n e. omega (arith, o .none t k) })
 
   -- one bid more, in front: bid p, of the client with t clients from it on
   module _ (p t : ℕ) (l : p < m .bids) (et : t ≡ 7 - m .owner (p + 1)) (w v : ℕ) (xs : List ℕ) (long : length xs ≡ 166) where
@@ -206,10 +206,10 @@ module _ (m : Market) (o : Owned m) where
 
 pub ready-none : (xs : List ℕ) → Blank xs → Ready xs
 ready-none xs b = record {
-  weights-few = λ i l. omega (arith, b .links i (omega arith));
-  hours-few = λ i l. omega (arith, b .links (48 + i) (omega arith));
-  rises = λ i l. omega (arith, b .links (96 + i) (omega arith));
+  weights-few = λ i l. omega (arith, b .bids i (omega arith));
+  hours-few = λ i l. omega (arith, b .bids (48 + i) (omega arith));
+  rises = λ i l. omega (arith, b .links (96 + i) (omega arith) (omega arith));
 }
 
 pub summable-none : (xs : List ℕ) → Blank xs → Summable xs
-summable-none xs b = record { long = b .long; few = λ t l. omega (arith, b .most (159 + t) (omega arith)); bottom = b .bottom }
+summable-none xs b = record { long = b .long; few = λ t l. omega (arith, b .rest (159 + t) (omega arith)); bottom = b .rest 152 (omega arith) }

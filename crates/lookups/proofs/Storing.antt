@@ -11,60 +11,64 @@ use lib.Seq.{getD-set-same, getD-set-other}
 use Rattle.book.specs.Book.{Book, bid-at, client-of, standing}
 use Rattle.lanes.specs.Lanes.{packed}
 use Rattle.combinations.specs.Combinations.{amount-of}
-use Rattle.lookups.specs.Looks.{zeros, blank, place-bid, laid, stood}
+use Rattle.lookups.specs.Looks.{nones, blank, place-bid, laid, stood}
 
--- one zero more
-pub zeros-more : (n p : ℕ) (xs zs : List ℕ) → 0 < n → zeros n p xs ≡ zs → zeros (n - 1) (p + 1) (set xs p 0) ≡ zs
-unfolding zeros
-zeros-more zero p xs zs l e = absurd (omega arith)
-zeros-more (suc n) p xs zs l e = let back : suc n - 1 ≡ n = omega arith in rw back e
+-- one none more
+pub nones-more : (n p : ℕ) (xs zs : List ℕ) → 0 < n → nones n p xs ≡ zs → nones (n - 1) (p + 1) (set xs p 48) ≡ zs
+unfolding nones
+nones-more zero p xs zs l e = absurd (omega arith)
+nones-more (suc n) p xs zs l e = let back : suc n - 1 ≡ n = omega arith in rw back e
 
-zeros-long : (n p : ℕ) (xs : List ℕ) → length (zeros n p xs) ≡ length xs
-unfolding zeros
-zeros-long zero p xs = refl
-zeros-long (suc n) p xs = zeros-long n (p + 1) (set xs p 0) ∙ length-set xs p 0
+nones-long : (n p : ℕ) (xs : List ℕ) → length (nones n p xs) ≡ length xs
+unfolding nones
+nones-long zero p xs = refl
+nones-long (suc n) p xs = nones-long n (p + 1) (set xs p 48) ∙ length-set xs p 48
 
-zeros-below : (n p j : ℕ) (xs : List ℕ) → j < p → getD (zeros n p xs) j 0 ≡ getD xs j 0
-unfolding zeros
-zeros-below zero p j xs l = refl
-zeros-below (suc n) p j xs l = zeros-below n (p + 1) j (set xs p 0) (omega arith) ∙ getD-set-other xs p j 0 0 (λ q. omega arith)
+nones-below : (n p j : ℕ) (xs : List ℕ) → j < p → getD (nones n p xs) j 0 ≡ getD xs j 0
+unfolding nones
+nones-below zero p j xs l = refl
+nones-below (suc n) p j xs l = nones-below n (p + 1) j (set xs p 48) (omega arith) ∙ getD-set-other xs p j 48 0 (λ q. omega arith)
 
-zeros-there : (n p j : ℕ) (xs : List ℕ) → p ≤ j → j < p + n → p + n ≤ length xs → getD (zeros n p xs) j 0 ≡ 0
-unfolding zeros
-zeros-there zero p j xs l k h = absurd (omega arith)
-zeros-there (suc n) p j xs l k h = elim (ℕ-discrete j p) [
-  | yes e ↦ zeros-below n (p + 1) j (set xs p 0) (omega arith) ∙ rw e (getD-set-same xs p 0 0 (omega arith))
-  | no d ↦ zeros-there n (p + 1) j (set xs p 0) (omega arith) (omega arith) (omega (arith, length-set xs p 0))
+nones-above : (n p j : ℕ) (xs : List ℕ) → p + n ≤ j → getD (nones n p xs) j 0 ≡ getD xs j 0
+unfolding nones
+nones-above zero p j xs l = refl
+nones-above (suc n) p j xs l = nones-above n (p + 1) j (set xs p 48) (omega arith) ∙ getD-set-other xs p j 48 0 (λ q. omega arith)
+
+nones-there : (n p j : ℕ) (xs : List ℕ) → p ≤ j → j < p + n → p + n ≤ length xs → getD (nones n p xs) j 0 ≡ 48
+unfolding nones
+nones-there zero p j xs l k h = absurd (omega arith)
+nones-there (suc n) p j xs l k h = elim (ℕ-discrete j p) [
+  | yes e ↦ nones-below n (p + 1) j (set xs p 48) (omega arith) ∙ rw e (getD-set-same xs p 48 0 (omega arith))
+  | no d ↦ nones-there n (p + 1) j (set xs p 48) (omega arith) (omega arith) (omega (arith, length-set xs p 48))
 ]
 
--- no bid yet: links lead to none, and the lowest ceiling and the largest weights are 0
+-- no bid yet: links lead to none, and all else is 0
 pub record Blank (xs : List ℕ) : Type 0 where
   pub long : length xs ≡ 166
-  pub links : (j : ℕ) → j < 152 → getD xs j 0 ≡ 48
-  pub bottom : getD xs 152 0 ≡ 0
-  pub most : (j : ℕ) → 159 ≤ j → getD xs j 0 ≡ 0
+  pub bids : (j : ℕ) → j < 96 → getD xs j 0 ≡ 0
+  pub links : (j : ℕ) → 96 ≤ j → j < 152 → getD xs j 0 ≡ 48
+  pub rest : (j : ℕ) → 152 ≤ j → getD xs j 0 ≡ 0
 
--- all entries are 48, and the lowest ceiling is 0
-abbrev first : List ℕ
-first = set (replicate 166 48) 152 0
+abbrev zeros : List ℕ
+zeros = replicate 166 0
 
-first-long : length first ≡ 166
-first-long = length-set {A = ℕ} (replicate 166 48) 152 0 ∙ length-replicate {A = ℕ} 166 48
+zeros-all : (j : ℕ) → getD zeros j 0 ≡ 0
+zeros-all j = elim (decLt j 166) [
+  | yes k ↦ getD-replicate {A = ℕ} 166 j 0 0 k
+  | no k ↦ List·getD-eq-default zeros 0 {n = j} (omega (arith, length-replicate {A = ℕ} 166 0))
+]
 
 pub blank-long : length blank ≡ 166
 unfolding blank
-blank-long = zeros-long 7 159 first ∙ first-long
+blank-long = nones-long 56 96 zeros ∙ length-replicate {A = ℕ} 166 0
 
 pub blank-is : Blank blank
 unfolding blank
 blank-is = record {
   long = blank-long;
-  links = λ j l. zeros-below 7 159 j first (omega arith) ∙ getD-set-other {A = ℕ} (replicate 166 48) 152 j 0 0 (λ q. omega arith) ∙ getD-replicate {A = ℕ} 166 j 48 0 (omega arith);
-  bottom = zeros-below 7 159 152 first (omega arith) ∙ getD-set-same {A = ℕ} (replicate 166 48) 152 0 0 (omega (arith, length-replicate {A = ℕ} 166 48));
-  most = λ j l. elim (decLt j 166) [
-    | yes k ↦ zeros-there 7 159 j first l (omega arith) (omega (arith, first-long))
-    | no k ↦ List·getD-eq-default blank 0 (omega (arith, blank-long))
-  ];
+  bids = λ j l. nones-below 56 96 j zeros l ∙ zeros-all j;
+  links = λ j l k. nones-there 56 96 j zeros l k (omega (arith, length-replicate {A = ℕ} 166 0));
+  rest = λ j l. nones-above 56 96 j zeros l ∙ zeros-all j;
 }
 
 -- one bid more, in front

@@ -13,14 +13,14 @@ use Rattle.lanes.specs.Lanes.{packed, used}
 use Rattle.combinations.specs.Combinations.{amount-of}
 use Rattle.hours.specs.Four.{four}
 
--- 0 at n places from one on
-unfoldable pub zeros : (n from : ℕ) → List ℕ → List ℕ
-zeros zero p xs = xs
-zeros (suc n) p xs = zeros n (p + 1) (set xs p 0)
+-- 48, which is none, at n places from one on
+unfoldable pub nones : (n from : ℕ) → List ℕ → List ℕ
+nones zero p xs = xs
+nones (suc n) p xs = nones n (p + 1) (set xs p 48)
 
--- no bid yet: 48, which is none, but 0 for the lowest ceiling and for the largest weights
+-- no bid yet: none is linked, and all else is 0
 unfoldable pub blank : List ℕ
-blank = zeros 7 159 (set (replicate 166 48) 152 0)
+blank = nones 56 96 (replicate 166 0)
 
 -- bid i at turn t: its link, its client's first bid, its weight, its hours, and its client's largest weight
 abbrev pub stored : (i t weight hours : ℕ) → List ℕ → List ℕ

@@ -13,15 +13,14 @@ ghost use Rattle.combinations.specs.Combinations.{market};
 ghost use Rattle.lookups.specs.Needs.{Placed, Owned};
 ghost use Rattle.lookups.specs.Looks.{blank, laid, stood, looks-of};
 
-// No bid yet: every link leads to none, which is 48, and ceilings and largest weights are 0.
+// No bid yet: every link leads to none, which is 48, and all else is 0.
 pub(crate) fn blank(looks: &mut [u64; 166])
     ensures { λ _. ⌜ now (looks .exit) ≡ blank ⌝ }
 {
-    *looks = [48u64; 166];
-    looks[152] = 0;
-    let mut t: usize = 159;
-    while t < 166 {
-        looks[t] = 0;
+    *looks = [0u64; 166];
+    let mut t: usize = 96;
+    while t < 152 {
+        looks[t] = 48;
         t += 1;
     }
 }
