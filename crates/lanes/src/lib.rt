@@ -2,12 +2,11 @@
 // those used, which in each lane are 255 less those left. So the hours asked are taken by one addition, and they fit if and only if no lane
 // goes over 255: then bit 8 of each lane, its guard (256), is clear.
 //
-// What a client may cite: `packed`, the hours asked; `used`, the hours used; `fit`, whether every guard is clear. Each takes anything,
+// What a client may cite: `packed`, the hours asked; `used`, the hours used; `guards_set`, 0 where every guard is clear. Each takes anything,
 // asks nothing of its caller, and its contract gives its result as a value. The search of the layer above cites them, with the laws of proofs/.
 ghost use mathlib.Core.Path.{_≡_};
 ghost use Prim.Native.Nat.{_≤_, min};
 ghost use lib.Bits.{bitAnd};
-ghost use lib.Dec.{eqb};
 ghost use lib.ListN.{take};
 ghost use Rattle.lanes.specs.Lanes.{packed, used, Bytes, ones};
 
@@ -47,9 +46,9 @@ pub fn used(left: [u8; 4]) -> u64
     71777214294589695 - packed(4, left)
 }
 
-// Whether every guard is clear.
-pub fn fit(after: u64) -> bool
-    ensures { λ r. ⌜ r ≡ eqb (bitAnd after 72058693566333184) 0 ⌝ }
+// The guards that are set: 0 where every guard is clear.
+pub fn guards_set(after: u64) -> u64
+    ensures { λ r. ⌜ (r ≡ bitAnd after 72058693566333184) × (r ≤ 72058693566333184) ⌝ }
 {
-    after & 72058693566333184 == 0
+    after & 72058693566333184
 }

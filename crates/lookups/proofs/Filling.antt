@@ -17,7 +17,7 @@ use Rattle.lookups.proofs.Storing.{Blank}
 
 -- each client is linked to its first of the bids from i on
 abbrev pub Firsts : Market → (i : ℕ) → List ℕ → Type 0
-Firsts m i xs = (c : ℕ) → 1 ≤ c → c ≤ 6 → Linked m c i (getD xs (144 + (7 - c)) 0)
+Firsts m i xs = (c : ℕ) → 1 ≤ c → c ≤ 7 → Linked m c i (getD xs (144 + (7 - c)) 0)
 
 -- each of the bids from i on weighs at most its client's entry, which stands by the clients from it on
 abbrev pub Largest : Market → (i : ℕ) → List ℕ → Type 0
@@ -50,8 +50,8 @@ module _ (m : Market) (o : Owned m) where
     client : m .owner (p + 1) ≡ 7 - t
     client = omega (arith, o .high p)
 
-    near : (1 ≤ t) × (t ≤ 6)
-    near = (omega (arith, o .high p), omega (arith, o .low p l))
+    near : t ≤ 6
+    near = omega (arith, o .low p l)
 
     -- the bid's link, and its client's largest weight
     abbrev x : ℕ
@@ -94,7 +94,7 @@ module _ (m : Market) (o : Owned m) where
     at-link : getD filled (96 + p) 0 ≡ x
     at-link =
         let inside = few in
-        let (low, high) = near in
+        let high = near in
         getD-set-other (set (set linked-one p w) (48 + p) v) (159 + t) (96 + p) u 0 (λ q. omega arith)
         ∙ getD-set-other (set linked-one p w) (48 + p) (96 + p) v 0 (λ q. omega arith)
         ∙ getD-set-other linked-one p (96 + p) w 0 (λ q. omega arith)
@@ -104,7 +104,7 @@ module _ (m : Market) (o : Owned m) where
     at-first : getD filled (144 + t) 0 ≡ p
     at-first =
         let inside = few in
-        let (low, high) = near in
+        let high = near in
         getD-set-other (set (set linked-one p w) (48 + p) v) (159 + t) (144 + t) u 0 (λ q. omega arith)
         ∙ getD-set-other (set linked-one p w) (48 + p) (144 + t) v 0 (λ q. omega arith)
         ∙ getD-set-other linked-one p (144 + t) w 0 (λ q. omega arith)
@@ -112,21 +112,21 @@ module _ (m : Market) (o : Owned m) where
 
     at-most : getD filled (159 + t) 0 ≡ u
     at-most =
-        let (low, high) = near in
+        let high = near in
         getD-set-same (set (set linked-one p w) (48 + p) v) (159 + t) u 0
         (omega (arith, length-set (set linked-one p w) (48 + p) v, length-set linked-one p w, length-set (set xs (96 + p) x) (144 + t) p, length-set xs (96 + p) x))
 
     -- the first bid of the client from p + 1 on
     after : Firsts m (p + 1) xs → Linked m (7 - t) (p + 1) x
     after h =
-        let (low, high) = near in
+        let high = near in
         let back : 7 - (7 - t) ≡ t = omega arith in
         rw back at (h (7 - t) (omega arith) (omega arith))
 
     pub firsts-next : Firsts m (p + 1) xs → Firsts m p filled
     firsts-next h c a b =
         let inside = few in
-        let (low, high) = near in
+        let high = near in
         elim (ℕ-discrete (7 - c) t) [
           | yes e ↦ let same : m .owner (p + 1) ≡ c = omega (arith, client) in rw (e, at-first) (linked-itself p c same)
           | no n ↦ rw (other (144 + (7 - c)) (λ q. omega arith) (λ q. omega arith) (λ q. omega arith) (λ q. n (omega arith)) (λ q. omega arith))
@@ -137,7 +137,7 @@ module _ (m : Market) (o : Owned m) where
       pub laid-next : Firsts m (p + 1) xs → w ≡ wt (p + 1) → Asked k (m .hours (p + 1)) v → Laid m wt k p filled
       laid-next f ew a =
           let inside = few in
-          let (low, high) = near in
+          let high = near in
           let most = o .few in
           record {
             weighed = λ j b d. elim (ℕ-discrete j p) [
@@ -158,7 +158,7 @@ module _ (m : Market) (o : Owned m) where
     pub ready-next : Firsts m (p + 1) xs → w ≤ 4294967295 → v ≤ 71777214294589695 → Ready xs → Ready filled
     ready-next f fw fv r =
         let inside = few in
-        let (low, high) = near in
+        let high = near in
         record {
           weights-few = λ i b. elim (ℕ-discrete i p) [
             | yes e ↦ rw (e, at-weight) fw
@@ -178,7 +178,7 @@ module _ (m : Market) (o : Owned m) where
     pub largest-next : Largest m (p + 1) xs → Largest m p filled
     largest-next h j a b =
         let inside = few in
-        let (low, high) = near in
+        let high = near in
         let most = o .few in
         let at : 7 - m .owner (j + 1) ≤ 6 = omega (arith, o .low j b) in
         let grown : getD xs (159 + (7 - m .owner (j + 1))) 0 ≤ getD filled (159 + (7 - m .owner (j + 1))) 0
@@ -194,7 +194,7 @@ module _ (m : Market) (o : Owned m) where
     pub summable-next : w ≤ 4294967295 → Summable xs → Summable filled
     summable-next fw s =
         let inside = few in
-        let (low, high) = near in
+        let high = near in
         record {
           long = filled-long;
           few = λ j b. elim (ℕ-discrete j t) [

@@ -1,6 +1,7 @@
 -- A bid at its place in the bytes, and what a sound book gives of all its bids. Cited by the proofs of src/, and of crates/values.
 -- Assumes nothing.
 use mathlib.Core.Path.{_≡_, sym, ap, ap₂, _∙_}
+use mathlib.Core.Bool.{Bool, true, false, cond}
 use mathlib.Core.List.{List, [], _∷_}
 use Prim.Native.Nat.{ℕ, _+_, _*_, _-_, _≤_, _<_}
 use native.Mathlib.Nat.{mul-le-mul-right}
@@ -8,14 +9,17 @@ use native.Mathlib.Decide.{decLt}
 use native.Mathlib.Omega.{arith}
 use lib.ListN.{length, take}
 use Rattle.book.specs.Bytes.{byte, field, bytes-at}
-use Rattle.book.specs.Book.{Bid, bid-at, client-of, no-bid}
+use Rattle.book.specs.Book.{Bid, bid-at, client-of, no-bid, supplies}
 use Rattle.book.specs.Layout.{K-of, m-of, bids-from, bid-here, book-in}
 use Rattle.book.specs.Questions.{book-formula}
 use Rattle.book.specs.Sound.{Sound}
 use Rattle.book.proofs.Places.{bid-at-stands, bid-at-none, bids-count}
+use Rattle.market.specs.Market.{Market, fits}
+use Rattle.market.specs.Restrict.{fitted}
 use Rattle.lanes.specs.Lanes.{packed}
 use Rattle.combinations.specs.Combinations.{market, amount-of}
 use Rattle.hours.proofs.Fours.{bytes-take}
+use Rattle.lookups.specs.Looks.{fitting}
 use Rattle.lookups.specs.Needs.{Placed, Owned}
 
 -- the bid that stands at a loop's place
@@ -78,6 +82,27 @@ owned-sound bs s =
       none = λ i l. none i (omega (arith, bids-count bs));
     }
 
+-- and those of a market without the bids that never fit
+pub owned-fitted : (m : Market) (supply : List ℕ) → Owned m → ((i : ℕ) → m .bids ≤ i → fits (m .hours (i + 1)) supply ≡ true) → Owned (fitted 7 supply m)
+owned-fitted m supply o past = record {
+  few = o .few;
+  low = λ i l. either-of (λ x. 1 ≤ x) (fits (m .hours (i + 1)) supply) (o .low i l) (omega arith);
+  high = λ i. either-of (λ x. x ≤ 7) (fits (m .hours (i + 1)) supply) (o .high i) (omega arith);
+  none = λ i l. rw (past i l) (o .none i l);
+}
+  where
+    either-of : (P : ℕ → Type 0) (y : Bool) {a z : ℕ} → P a → P z → P (cond y a z)
+    either-of P true p q = p
+    either-of P false p q = q
+
+-- past the last bid nothing is asked
+pub fits-past : (bs : List ℕ) (i : ℕ) → market (book-in bs) .bids ≤ i → fits (market (book-in bs) .hours (i + 1)) (supplies (book-in bs)) ≡ true
+unfolding market fits no-bid
+fits-past bs i l = ap (λ (x : Bid). fits (x .hours) (supplies (book-in bs))) (bid-at-none bs (i + 1) (omega (arith, bids-count bs)))
+
+pub owned-fitting : (bs : List ℕ) → Sound bs → Owned (fitting (book-in bs))
+owned-fitting bs s = owned-fitted (market (book-in bs)) (supplies (book-in bs)) (owned-sound bs s) (fits-past bs)
+
 -- the four bytes read of a bid, packed
 pub packed-here : (bs : List ℕ) (k at i : ℕ) (row : List ℕ) (v : ℕ) → k ≤ 4 → bid-at (book-in bs) (i + 1) ≡ bid-here k at bs → row ≡ bytes-at 4 (at + 1) bs
     → v ≡ packed (take k row) → v ≡ packed (bid-at (book-in bs) (i + 1) .hours)
@@ -86,7 +111,7 @@ packed-here bs k at i row v l e er ev =
 
 -- whose the bid at a place is
 pub owner-at : (bs : List ℕ) (k m from p at c : ℕ) → Placed bs k m from → Owned (market (book-in bs)) → p < m → at ≡ from + p * (k + 5) → c ≡ byte at bs
-    → (c ≡ client-of (book-in bs) (p + 1)) × (1 ≤ c) × (c ≤ 6)
+    → (c ≡ client-of (book-in bs) (p + 1)) × (1 ≤ c) × (c ≤ 7)
 unfolding market
 owner-at bs k m from p at c h o l ea ec =
     let own : c ≡ client-of (book-in bs) (p + 1) = ec ∙ sym (owner-here bs k at p (bid-here-at bs p k from at (h .kinds) (h .place) (omega (arith, h .bids)) ea)) in

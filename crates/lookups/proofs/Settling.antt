@@ -10,10 +10,9 @@ use native.Mathlib.Decide.{ℕ-discrete}
 use native.Mathlib.Omega.{arith}
 use lib.ListN.{length, getD, set, length-set}
 use lib.Seq.{getD-set-same, getD-set-other}
-use Rattle.book.specs.Book.{Book, client-of, standing}
+use Rattle.book.specs.Book.{Book, standing}
 use Rattle.market.specs.Market.{Market}
-use Rattle.combinations.specs.Combinations.{market}
-use Rattle.lookups.specs.Looks.{settled, stood}
+use Rattle.lookups.specs.Looks.{fitting, settled, stood}
 use Rattle.lookups.specs.Needs.{Owned}
 use Rattle.lookups.specs.Prepared.{Laid, Summable, Ready, Standing}
 use Rattle.lookups.proofs.Filling.{Firsts, Largest}
@@ -66,13 +65,12 @@ module _ (b : Book) (xs ys : List ℕ) (h : Stood b 7 xs ys) where
   stood-first : (c : ℕ) → 1 ≤ c → c ≤ 6 → getD ys (144 + (7 - c)) 0 ≡ cond (standing b c) (getD xs (144 + (7 - c)) 0) 48
   stood-first c l k = let back : 7 - (7 - c) ≡ c = omega arith in rw back at (h .first (7 - c) (omega arith))
 
-  pub stood-standing : Owned (market b) → Firsts (market b) 0 xs → Largest (market b) 0 xs → Standing b ys
-  unfolding market
+  pub stood-standing : Owned (fitting b) → Firsts (fitting b) 0 xs → Largest (fitting b) 0 xs → Standing b ys
   stood-standing o f g = record {
-    first = λ c l k y. rw (stood-first c l k, y) (f c l k);
+    first = λ c l k y. rw (stood-first c l k, y) (f c l (omega arith));
     gone = λ c l k n. rw n at (stood-first c l k);
-    covers = λ j l y. let back : 7 - (7 - client-of b (j + 1)) ≡ client-of b (j + 1) = omega (arith, o .high j) in
-        let z = rw (back, y) at (h .most (7 - client-of b (j + 1)) (omega (arith, o .low j l))) in
+    covers = λ j l y. let back : 7 - (7 - fitting b .owner (j + 1)) ≡ fitting b .owner (j + 1) = omega (arith, o .high j) in
+        let z = rw (back, y) at (h .most (7 - fitting b .owner (j + 1)) (omega (arith, o .low j l))) in
         omega (arith, z, h .low j (omega (arith, o .few)), g j (omega arith) l);
   }
 

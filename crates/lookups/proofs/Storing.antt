@@ -8,10 +8,10 @@ use native.Mathlib.Decide.{ℕ-discrete, decLt}
 use native.Mathlib.Omega.{arith}
 use lib.ListN.{length, getD, set, replicate, length-set, length-replicate, getD-replicate, List·getD-eq-default}
 use lib.Seq.{getD-set-same, getD-set-other}
-use Rattle.book.specs.Book.{Book, bid-at, client-of, standing}
+use Rattle.book.specs.Book.{Book, bid-at, standing}
 use Rattle.lanes.specs.Lanes.{packed}
 use Rattle.combinations.specs.Combinations.{amount-of}
-use Rattle.lookups.specs.Looks.{nones, blank, place-bid, laid, stood}
+use Rattle.lookups.specs.Looks.{fitting, nones, blank, place-bid, laid, stood}
 
 -- one none more
 pub nones-more : (n p : ℕ) (xs zs : List ℕ) → 0 < n → nones n p xs ≡ zs → nones (n - 1) (p + 1) (set xs p 48) ≡ zs
@@ -72,7 +72,7 @@ blank-is = record {
 }
 
 -- one bid more, in front
-pub laid-more : (b : Book) (i t w v u : ℕ) (xs zs : List ℕ) → 0 < i → t ≡ 7 - client-of b (i - 1 + 1) → w ≡ amount-of b (i - 1 + 1)
+pub laid-more : (b : Book) (i t w v u : ℕ) (xs zs : List ℕ) → 0 < i → t ≡ 7 - fitting b .owner (i - 1 + 1) → w ≡ amount-of b (i - 1 + 1)
     → v ≡ packed (bid-at b (i - 1 + 1) .hours) → u ≡ max (getD xs (159 + t) 0) w → laid b i xs ≡ zs
     → laid b (i - 1) (set (set (set (set (set xs (96 + (i - 1)) (getD xs (144 + t) 0)) (144 + t) (i - 1)) (i - 1) w) (48 + (i - 1)) v) (159 + t) u) ≡ zs
 unfolding laid place-bid

@@ -6,12 +6,18 @@ use mathlib.Core.List.{List}
 use Prim.Native.Nat.{ℕ, zero, suc, _+_, _-_, max}
 use lib.Dec.{eqb}
 use lib.ListN.{length, getD, set, replicate}
-use Rattle.book.specs.Book.{Book, bid-at, client-of, standing, supplies}
+use Rattle.book.specs.Book.{Book, bid-at, standing, supplies}
 use Rattle.book.specs.Layout.{book-in}
 use Rattle.book.specs.Questions.{book-refusal}
+use Rattle.market.specs.Market.{Market}
+use Rattle.market.specs.Restrict.{fitted}
 use Rattle.lanes.specs.Lanes.{packed, used}
-use Rattle.combinations.specs.Combinations.{amount-of}
+use Rattle.combinations.specs.Combinations.{market, amount-of}
 use Rattle.hours.specs.Four.{four}
+
+-- the book's market without the bids that never fit: they go to client 7, whom no book has
+abbrev pub fitting : Book → Market
+fitting b = fitted 7 (supplies b) (market b)
 
 -- 48, which is none, at n places from one on
 unfoldable pub nones : (n from : ℕ) → List ℕ → List ℕ
@@ -28,7 +34,7 @@ stored i t w h xs = set (set (set (set (set xs (96 + i) (getD xs (144 + t) 0)) (
 
 -- the same of a book's bid; bids are counted from 0 here
 unfoldable pub place-bid : Book → (i : ℕ) → List ℕ → List ℕ
-place-bid b i xs = stored i (7 - client-of b (i + 1)) (amount-of b (i + 1)) (packed (bid-at b (i + 1) .hours)) xs
+place-bid b i xs = stored i (7 - fitting b .owner (i + 1)) (amount-of b (i + 1)) (packed (bid-at b (i + 1) .hours)) xs
 
 -- n bids, from the last back
 unfoldable pub laid : Book → (n : ℕ) → List ℕ → List ℕ

@@ -1,18 +1,19 @@
--- What holds of the array that the search looks up: it lays out the book's market. Its bids are counted from 0: their weights, and from places
--- 48 and 96 on their hours and links; from place 144 on each client's first bid, by the number of clients from it on to the sixth, and from
--- place 159 on its largest weight. Cited by the contracts of crates/values; proved in proofs/Preparing.antt. Assumes nothing: these are
--- definitions.
+-- What holds of the array that the search looks up: it lays out the book's market without the bids that never fit. Its bids are counted from
+-- 0: their weights, and from places 48 and 96 on their hours and links; from place 144 on each client's first bid, by the number of clients
+-- from it on to the sixth, and from place 159 on its largest weight. Cited by the contracts of crates/values; proved in
+-- proofs/Preparing.antt. Assumes nothing: these are definitions.
 use mathlib.Core.Path.{_≡_}
 use mathlib.Core.List.{List}
 use mathlib.Core.Logic.{_≢_}
 use mathlib.Core.Bool.{true, false}
 use Prim.Native.Nat.{ℕ, _+_, _-_, _≤_, _<_}
 use lib.ListN.{length, getD}
-use Rattle.book.specs.Book.{Book, client-of, standing}
+use Rattle.book.specs.Book.{Book, standing}
 use Rattle.book.specs.Layout.{K-of, book-in}
 use Rattle.market.specs.Market.{Market}
 use Rattle.lanes.specs.Lanes.{packed, Bytes}
-use Rattle.combinations.specs.Combinations.{market, amount-of}
+use Rattle.combinations.specs.Combinations.{amount-of}
+use Rattle.lookups.specs.Looks.{fitting}
 
 -- the first bid of client c from bid i on is j; 48 where there is none
 pub record Linked (m : Market) (c i j : ℕ) : Type 0 where
@@ -50,13 +51,13 @@ pub record Ready (xs : List ℕ) : Type 0 where
 
 -- first bids and largest weights of clients that stand, by the clients from each on; others have none
 pub record Standing (b : Book) (xs : List ℕ) : Type 0 where
-  pub first : (c : ℕ) → 1 ≤ c → c ≤ 6 → standing b c ≡ true → Linked (market b) c 0 (getD xs (144 + (7 - c)) 0)
+  pub first : (c : ℕ) → 1 ≤ c → c ≤ 6 → standing b c ≡ true → Linked (fitting b) c 0 (getD xs (144 + (7 - c)) 0)
   pub gone : (c : ℕ) → 1 ≤ c → c ≤ 6 → standing b c ≡ false → getD xs (144 + (7 - c)) 0 ≡ 48
-  pub covers : (j : ℕ) → j < market b .bids → standing b (client-of b (j + 1)) ≡ true → getD xs j 0 ≤ getD xs (159 + (7 - client-of b (j + 1))) 0
+  pub covers : (j : ℕ) → j < fitting b .bids → standing b (fitting b .owner (j + 1)) ≡ true → getD xs j 0 ≤ getD xs (159 + (7 - fitting b .owner (j + 1))) 0
 
 -- the array of the book's bids
 pub record Prepared (bs xs : List ℕ) : Type 0 where
-  pub laid : Laid (market (book-in bs)) (amount-of (book-in bs)) (K-of bs) 0 xs
+  pub laid : Laid (fitting (book-in bs)) (amount-of (book-in bs)) (K-of bs) 0 xs
   pub ready : Ready xs
   pub stands : Standing (book-in bs) xs
   pub summable : Summable xs

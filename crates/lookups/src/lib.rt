@@ -1,8 +1,8 @@
 // Layer 2: what the search for greatest values looks up in a book, whoever is discarded.
 //
 // What a client may cite: `lay_out`, which takes any bytes, asks nothing of its caller, and whose contract gives every field of its answer,
-// and what becomes of the array that it is lent, as a value (specs/Looks.antt); and the law of proofs/Preparing.antt, that the array of a
-// sound book lays out its market (specs/Prepared.antt).
+// and what becomes of the array that it is lent, as a value (specs/Looks.antt); and the laws of proofs/: that the array of a sound book lays
+// out its market without the bids that never fit (Preparing.antt), and what the supply is as a number (Fitting.antt).
 mod array;
 mod places;
 
@@ -28,6 +28,6 @@ pub fn lay_out(book: &[u8], looks: &mut [u64; 166]) -> Looks
     }
     let used = lanes::used(hours::supply(book));
     array::blank(looks);
-    array::prepare(book, looks);
+    array::prepare(book, used, looks);
     Looks { number: 0, used }
 }

@@ -23,6 +23,7 @@ pub mod Compare
 pub mod Weights
 pub mod Agree
 pub mod Restrict
+pub mod Fitted
 pub mod Kept
 pub mod Renumber
 -- A market computed.

@@ -1,7 +1,7 @@
 // The greatest value by a search on the clients left, which fall by one at each call. It leaves out what cannot beat the floor, the
 // value that is already found: by the ceilings of the clients left. The hours of a bid and the hours used are numbers of crates/lanes.
 ghost use mathlib.Core.Path.{_≡_};
-ghost use mathlib.Core.Bool.{_&&_};
+ghost use mathlib.Core.Bool.{_&&_, cond};
 ghost use mathlib.Core.List.{List};
 ghost use Prim.Native.Nat.{ℕ, _*_, _-_, _≤_, max};
 ghost use lib.Bits.{bitAnd};
@@ -11,21 +11,19 @@ ghost use Rattle.market.specs.Greatest.{best};
 ghost use Rattle.lookups.specs.Prepared.{Ready};
 ghost use Rattle.values.specs.Needs.{Left, Looked, Turn, weight-in};
 
-// Whether the most that a choice can come to is more than what is found.
-fn beats(most: u64, top: u64) -> bool
-    ensures { λ r. ⌜ r ≡ ltb top most ⌝ }
+// 1 where the most that a choice can come to is not more than what is found, and else 0.
+fn short(most: u64, top: u64) -> u64
+    ensures { λ r. ⌜ (r ≡ cond (ltb top most) 0 1) × (r ≤ 1) ⌝ }
 {
-    top < most
+    if top < most { 0 } else { 1 }
 }
 
-// Whether a bid can raise the best, by the most that it can come to, and fits: no guard is set in what would be used.
+// Whether a bid can raise the best, by the most that it can come to, and fits: no guard is set in what would be used. One test does for both,
+// as neither alone can be foretold.
 fn may_raise(after: u64, top: u64, most: u64) -> bool
     ensures { λ r. ⌜ r ≡ (ltb top most && eqb (bitAnd after 72058693566333184) 0) ⌝ }
 {
-    if beats(most, top) {
-        return lanes::fit(after);
-    }
-    false
+    lanes::guards_set(after) + short(most, top) == 0
 }
 
 // The larger of the floor and of the greatest value of the last clients (`ahead` of them) with the hours that are left, in whatever market the

@@ -24,7 +24,8 @@ pub struct Values {
     pub values: [u64; 64],
 }
 
-// The greatest value of a sound book, by what the search looks up; clients that a book does not have reach nothing.
+// The greatest value of a sound book, by what the search looks up; clients that a book does not have reach nothing. Where the ceiling is 0 there is
+// nothing to search for.
 fn value_by(book: &[u8], discard: u8, used: u64, looks: &mut [u64; 166]) -> u64
     requires { ⌜ Sound (now book) ⌝ }
     requires { ⌜ Left (K-of (now book)) (supplies (book-in (now book))) used ⌝ }
@@ -32,7 +33,10 @@ fn value_by(book: &[u8], discard: u8, used: u64, looks: &mut [u64; 166]) -> u64
     ensures { λ r. ⌜ (r ≡ greatest (book-in (now (book .entry))) discard) × (r ≤ 6000000) ⌝ }
     ensures { λ _. ⌜ Prepared (now (book .entry)) (now (looks .exit)) ⌝ }
 {
-    tops::turn(discard, looks);
+    let most = tops::turn(discard, looks);
+    if most == 0 {
+        return 0;
+    }
     search::search_from(6, used, 0, looks)
 }
 

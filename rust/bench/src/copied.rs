@@ -1,6 +1,7 @@
 //! Our search put into Rust line by line, with its bounds checks: one array with the same things at the same places, and the same recursion
 //! with the same four arguments.
 
+use crate::search::Surpluses;
 use crate::shape::Shape;
 
 const NONE: u64 = 48;
@@ -19,19 +20,20 @@ const FIRST: usize = 144;
 const TOPS: usize = 152;
 const MOST: usize = 159;
 
-fn in_lanes(hours: &[u8]) -> u64 {
-    hours.iter().rev().fold(0, |lanes, &hours| lanes << 16 | u64::from(hours))
+fn in_lanes(k: usize, [a, b, c, d]: [u8; 4]) -> u64 {
+    let lanes_to = if k < 4 { (1 << (16 * k)) - 1 } else { u64::MAX };
+    (u64::from(a) | u64::from(b) << 16 | u64::from(c) << 32 | u64::from(d) << 48) & lanes_to
 }
 
-fn look_up(s: &Shape) -> Looks {
-    let mut looks = [NONE; 166];
-    looks[TOPS] = 0;
-    looks[MOST..].fill(0);
+fn look_up(s: &Shape, used: u64) -> Looks {
+    let mut looks = [0; 166];
+    looks[LINKS..TOPS].fill(NONE);
     for i in (0..s.bids).rev() {
         let at = s.place(i);
-        let turn = 7 - s.book[at] as usize;
+        let hours = in_lanes(s.kinds, s.book[at + 1..at + 5].try_into().unwrap());
+        let turn = if (used + hours) & GUARDS == 0 { 7 - s.book[at] as usize } else { 0 };
         looks[i] = u64::from(s.amount(at));
-        looks[HOURS + i] = in_lanes(s.hours(at));
+        looks[HOURS + i] = hours;
         looks[LINKS + i] = looks[FIRST + turn];
         looks[FIRST + turn] = i as u64;
         looks[MOST + turn] = looks[MOST + turn].max(looks[i]);
@@ -45,14 +47,15 @@ fn look_up(s: &Shape) -> Looks {
     looks
 }
 
-/// By the clients left, the sum of the largest weights of those that stay.
-fn turn(discard: u8, looks: &mut Looks) {
+/// By the clients left, the sum of the largest weights of those that stay; that of all six is handed back.
+fn turn(discard: u8, looks: &mut Looks) -> u64 {
     let mut sum = 0;
     for turn in 1..7 {
         let stays = (discard >> (6 - turn)) & 1 == 0;
         sum += if stays { looks[MOST + turn] } else { 0 };
         looks[TOPS + turn] = sum;
     }
+    sum
 }
 
 fn search(looks: &Looks, ahead: usize, used: u64, floor: u64) -> u64 {
@@ -68,21 +71,28 @@ fn search(looks: &Looks, ahead: usize, used: u64, floor: u64) -> u64 {
         let weight = looks[bid];
         let after = used + looks[HOURS + bid];
         i = looks[LINKS + bid];
-        if top < weight + rest && after & GUARDS == 0 {
+        let short = u64::from(weight + rest <= top);
+        if (after & GUARDS) + short == 0 {
             top = weight + search(looks, ahead - 1, after, top.saturating_sub(weight));
         }
     }
     search(looks, ahead - 1, used, top)
 }
 
+/// The answer that ours gives, handed out as ours is: by a call.
+#[inline(never)]
+pub fn surpluses(shape: &Shape) -> Surpluses {
+    Surpluses::of(greatest_of(shape, 0..64))
+}
+
 /// The greatest values with each of the sets of clients discarded, looked up once.
-pub fn greatest_of(shape: &Shape, discards: impl Iterator<Item = u8>) -> [u64; 64] {
-    let mut looks = look_up(shape);
-    let used = FULL - in_lanes(&shape.supply());
+fn greatest_of(shape: &Shape, discards: impl Iterator<Item = u8>) -> [u64; 64] {
+    let used = FULL - in_lanes(4, shape.supply());
+    let mut looks = look_up(shape, used);
     let mut values = [0; 64];
     for (value, discard) in values.iter_mut().zip(discards) {
-        turn(discard, &mut looks);
-        *value = search(&looks, 6, used, 0);
+        let most = turn(discard, &mut looks);
+        *value = if most == 0 { 0 } else { search(&looks, 6, used, 0) };
     }
     values
 }

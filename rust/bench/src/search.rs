@@ -1,6 +1,7 @@
 //! The same search as one would write it in Rust, with its bounds checks: links, weights and hours once, then for each set its ceilings, and the
 //! clients left, from a floor. Hours of up to four kinds are one number, a lane of 16 bits for each. Instead of the hours left there are those used,
-//! 255 less those left, so that more is asked than is left where a lane goes over 255 and its guard bit is set.
+//! 255 less those left, so that more is asked than is left where a lane goes over 255 and its guard bit is set. One test tells whether a bid fits and
+//! can raise the best.
 
 use crate::questions;
 use crate::shape::Shape;
@@ -22,13 +23,14 @@ fn in_lanes(hours: &[u8]) -> u64 {
     hours.iter().rev().fold(0, |lanes, &hours| lanes << 16 | u64::from(hours))
 }
 
-fn look_up(s: &Shape) -> Lookups {
+/// A bid that asks for more than there is goes to turn 0, which nobody has.
+fn look_up(s: &Shape, used: u64) -> Lookups {
     let mut l = Lookups { weights: [0; 48], hours: [0; 48], links: [NONE; 56], most: [0; 7] };
     for i in (0..s.bids).rev() {
         let at = s.place(i);
-        let turn = 7 - s.book[at] as usize;
         l.weights[i] = u64::from(s.amount(at));
         l.hours[i] = in_lanes(s.hours(at));
+        let turn = if (used + l.hours[i]) & GUARDS == 0 { 7 - s.book[at] as usize } else { 0 };
         l.links[i] = l.links[48 + turn];
         l.links[48 + turn] = i;
         l.most[turn] = l.most[turn].max(l.weights[i]);
@@ -63,7 +65,8 @@ fn search(l: &Lookups, tops: &Tops, ahead: usize, used: u64, floor: u64) -> u64 
     while i < NONE {
         let weight = l.weights[i];
         let after = used + l.hours[i];
-        if top < weight + ceiling && after & GUARDS == 0 {
+        let short = u64::from(weight + ceiling <= top);
+        if (after & GUARDS) + short == 0 {
             let more = search(l, tops, ahead - 1, after, top.saturating_sub(weight));
             top = top.max(weight + more);
         }
@@ -84,18 +87,42 @@ fn greatest_by(lookups: &Lookups, used: u64, discard: u8) -> u64 {
 
 /// The greatest value with clients discarded.
 pub fn greatest(shape: &Shape, discard: u8) -> u64 {
-    greatest_by(&look_up(shape), used_first(shape), discard)
+    let used = used_first(shape);
+    greatest_by(&look_up(shape, used), used, discard)
 }
 
 /// The greatest values with each of the sets of clients discarded, looked up once.
 pub fn greatest_of(shape: &Shape, discards: impl Iterator<Item = u8>) -> [u64; 64] {
-    let lookups = look_up(shape);
     let used = used_first(shape);
+    let lookups = look_up(shape, used);
     let mut values = [0; 64];
     for (value, discard) in values.iter_mut().zip(discards) {
         *value = greatest_by(&lookups, used, discard);
     }
     values
+}
+
+/// The greatest value, and σ of each set of clients, by which it falls without them.
+pub struct Surpluses {
+    value: u64,
+    sigma: [u64; 64],
+}
+
+impl Surpluses {
+    pub fn of(values: [u64; 64]) -> Self {
+        Surpluses { value: values[0], sigma: values.map(|without| values[0] - without) }
+    }
+
+    /// The sum of all 64 greatest values.
+    pub fn sum(&self) -> u64 {
+        64 * self.value - self.sigma.iter().sum::<u64>()
+    }
+}
+
+/// The answer that ours gives, handed out as ours is: by a call.
+#[inline(never)]
+pub fn surpluses(shape: &Shape) -> Surpluses {
+    Surpluses::of(greatest_of(shape, 0..64))
 }
 
 /// The greatest value of any bytes, as ours: questions 1 to 5 and 16 first.

@@ -23,17 +23,17 @@ pub fn ours(book: &[u8]) -> u64 {
 
 /// The same by the search in Rust, with no question put.
 fn searched(book: &[u8]) -> u64 {
-    search::greatest_of(&Shape::of(black_box(book)), 0..64).iter().sum()
+    search::surpluses(&Shape::of(black_box(book))).sum()
 }
 
 /// The same by the search in Rust, with questions 1 to 5 first.
 pub fn asked(book: &[u8]) -> u64 {
-    questions::sound(black_box(book)).map_or(0, |shape| search::greatest_of(&shape, 0..64).iter().sum())
+    questions::sound(black_box(book)).map_or(0, |shape| search::surpluses(&shape).sum())
 }
 
 /// The same by our search put into Rust line by line, with questions 1 to 5 first.
 fn copied(book: &[u8]) -> u64 {
-    questions::sound(black_box(book)).map_or(0, |shape| copied::greatest_of(&shape, 0..64).iter().sum())
+    questions::sound(black_box(book)).map_or(0, |shape| copied::surpluses(&shape).sum())
 }
 
 /// The same one by one, by the proved library and by the search in Rust, with the questions put at each call.

@@ -6,6 +6,7 @@ use Prim.Native.Nat.{ℕ}
 use Rattle.book.proofs.Soundness.{sound}
 use Rattle.lanes.specs.Lanes.{used}
 use Rattle.combinations.proofs.Refusals.{refusal-none, refused-not-zero}
+use Rattle.lookups.proofs.Fitting.{unsold}
 use Rattle.lookups.proofs.lay_out.Statement.{statement}
 use Rattle.lookups.proofs.lay_out.Tie as tie
 
@@ -15,10 +16,11 @@ returns c =
     record { numbered = c .before .refusal .ensures; supplied = rw no; looked = rw no }
 
 prepare-requires : tie.Need-prepare-requires
-prepare-requires c κs = (
-  sound _ (refusal-none (c .before .before .before .before .before .before .refusal .ensures) (c .before .before .before .before .before .if1 .left)),
-  c .before .blank .ensures,
-)
+prepare-requires c κs =
+    let asked = c .before .before .before .before .before in
+    let s = sound _ (refusal-none (asked .before .refusal .ensures) (asked .if1 .left)) in
+    let read = c .before .before .before .used .ensures .0 ∙ ap (λ (ls : List ℕ). used 4 ls) (c .before .before .before .before .supply .ensures) in
+    (s, (read ∙ unsold _ (s .K-high), c .before .blank .ensures))
 
 returns-2 : tie.Need-returns-2
 returns-2 c =

@@ -16,7 +16,7 @@ look-up-requires : tie.Need-look-up-requires
 look-up-requires c κs =
     let p = c .before .before .before .before .before .pre in (
       placed-sound _ _ _ _ (p .0) (c .before .before .before .kinds .ensures) (c .before .before .bids .ensures) (c .before .bids-place .ensures),
-      (owned-sound _ (p .0), ap length (p .1) ∙ blank-long),
+      (p .1 .0, (owned-sound _ (p .0), ap length (p .1 .1) ∙ blank-long)),
     )
 
 returns : tie.Need-returns
@@ -25,7 +25,7 @@ returns c =
     let s = c .before .before .before .before .before .before .before .before in
     let bs = s .args .book .now in
     let count = c .before .before .before .before .before .bids .ensures ∙ sym (bids-count bs) in
-    c .stand .ensures ∙ ap (λ (xs : List ℕ). stood (book-in bs) 7 0 xs) (c .before .before .look-up .ensures .0 ∙ ap₂ (λ (n : ℕ) (xs : List ℕ). laid (book-in bs) n xs) count (s .pre .1))
+    c .stand .ensures ∙ ap (λ (xs : List ℕ). stood (book-in bs) 7 0 xs) (c .before .before .look-up .ensures .0 ∙ ap₂ (λ (n : ℕ) (xs : List ℕ). laid (book-in bs) n xs) count (s .pre .1 .1))
 
 pub prepare-spec : {M : Type 1} → statement M
 prepare-spec =

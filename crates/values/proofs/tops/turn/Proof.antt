@@ -54,7 +54,7 @@ returns : tie.Need-returns Inv-loop μ-loop
 returns c =
     let l = c .before .loop in
     let six : l .t ≡ 6 = le-antisymm (l .inv .0) (c .loop-test .left) in
-    record { long = l .inv .1; kept = l .inv .2; topped = rw six at (rw (← l .inv .3 .here) at (l .inv .3)) }
+    (sym (rw six at (l .inv .3 .here)), record { long = l .inv .1; kept = l .inv .2; topped = rw six at (rw (← l .inv .3 .here) at (l .inv .3)) })
 
 pub turn-spec : {M : Type 1} → statement M
 turn-spec =
