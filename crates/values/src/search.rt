@@ -11,11 +11,18 @@ ghost use Rattle.market.specs.Greatest.{best};
 ghost use Rattle.lookups.specs.Prepared.{Ready};
 ghost use Rattle.values.specs.Needs.{Left, Looked, Turn, weight-in};
 
-// 1 where the most that a choice can come to is not more than what is found, and else 0.
-fn short(most: u64, top: u64) -> u64
-    ensures { λ r. ⌜ (r ≡ cond (ltb top most) 0 1) × (r ≤ 1) ⌝ }
+// Whether the most that a choice can come to is more than what is found.
+fn beats(most: u64, top: u64) -> bool
+    ensures { λ r. ⌜ r ≡ ltb top most ⌝ }
 {
-    if top < most { 0 } else { 1 }
+    top < most
+}
+
+// A test as a number: 0 where it is met, and else 1.
+fn missed(met: bool) -> u64
+    ensures { λ r. ⌜ (r ≡ cond met 0 1) × (r ≤ 1) ⌝ }
+{
+    if met { 0 } else { 1 }
 }
 
 // Whether a bid can raise the best, by the most that it can come to, and fits: no guard is set in what would be used. One test does for both,
@@ -23,7 +30,7 @@ fn short(most: u64, top: u64) -> u64
 fn may_raise(after: u64, top: u64, most: u64) -> bool
     ensures { λ r. ⌜ r ≡ (ltb top most && eqb (bitAnd after 72058693566333184) 0) ⌝ }
 {
-    lanes::guards_set(after) + short(most, top) == 0
+    lanes::guards_set(after) + missed(beats(most, top)) == 0
 }
 
 // The larger of the floor and of the greatest value of the last clients (`ahead` of them) with the hours that are left, in whatever market the
