@@ -41,11 +41,11 @@ cut-off (suc k) (x ∷ xs) b =
     lane-apart x 65535 (packed xs) (ones k) (omega (arith, b 0)) (omega arith) ∙ omega (arith, kept, cut-off k xs (λ i. b (suc i)))
 
 -- entries that are kept are bytes
-bytes-take : (k : ℕ) (xs : List ℕ) → Bytes xs → Bytes (take k xs)
-bytes-take zero xs b i = omega arith
-bytes-take (suc k) [] b i = b i
-bytes-take (suc k) (x ∷ xs) b zero = b 0
-bytes-take (suc k) (x ∷ xs) b (suc i) = bytes-take k xs (λ i. b (suc i)) i
+bytes-cut : (k : ℕ) (xs : List ℕ) → Bytes xs → Bytes (take k xs)
+bytes-cut zero xs b i = omega arith
+bytes-cut (suc k) [] b i = b i
+bytes-cut (suc k) (x ∷ xs) b zero = b 0
+bytes-cut (suc k) (x ∷ xs) b (suc i) = bytes-cut k xs (λ i. b (suc i)) i
 
 -- four entries, as they are read
 pub record Four (xs : List ℕ) (a b c d : ℕ) : Type 0 where
@@ -57,7 +57,7 @@ pub record Four (xs : List ℕ) (a b c d : ℕ) : Type 0 where
 
 module _ (xs : List ℕ) (a b c d : ℕ) (f : Four xs a b c d) where
   -- each of them is a byte
-  pub bytes-four : Bytes xs
+  bytes-four : Bytes xs
   bytes-four zero = omega (arith, f .first)
   bytes-four (suc zero) = omega (arith, f .second)
   bytes-four (suc (suc zero)) = omega (arith, f .third)
@@ -81,8 +81,8 @@ module _ (xs : List ℕ) (a b c d : ℕ) (f : Four xs a b c d) where
   pub packed-four : (k mask : ℕ) → mask ≡ ones (min k 4)
       → let r = bitAnd (a + b * 65536 + c * 4294967296 + d * 281474976710656) mask in (r ≡ packed (take k xs)) × (r ≤ 71777214294589695) × Bytes (take k xs)
   packed-four k mask e =
-      let few : packed (take k xs) ≤ 71777214294589695 = packed-most (take k xs) (omega (arith, length-take k xs, f .long)) (bytes-take k xs bytes-four) in
-      (kept k mask e, omega (arith, kept k mask e), bytes-take k xs bytes-four)
+      let few : packed (take k xs) ≤ 71777214294589695 = packed-most (take k xs) (omega (arith, length-take k xs, f .long)) (bytes-cut k xs bytes-four) in
+      (kept k mask e, omega (arith, kept k mask e), bytes-cut k xs bytes-four)
 
 -- used and left make up 255 in each lane
 used-is : (n : ℕ) (ls : List ℕ) → length ls ≤ n → Bytes ls → used n ls + packed ls ≡ used n []

@@ -83,7 +83,7 @@ owned-sound bs s =
     }
 
 -- and those of a market without the bids that never fit
-pub owned-fitted : (m : Market) (supply : List ℕ) → Owned m → ((i : ℕ) → m .bids ≤ i → fits (m .hours (i + 1)) supply ≡ true) → Owned (fitted 7 supply m)
+owned-fitted : (m : Market) (supply : List ℕ) → Owned m → ((i : ℕ) → m .bids ≤ i → fits (m .hours (i + 1)) supply ≡ true) → Owned (fitted 7 supply m)
 owned-fitted m supply o past = record {
   few = o .few;
   low = λ i l. either-of (λ x. 1 ≤ x) (fits (m .hours (i + 1)) supply) (o .low i l) (omega arith);
@@ -96,7 +96,7 @@ owned-fitted m supply o past = record {
     either-of P false p q = q
 
 -- past the last bid nothing is asked
-pub fits-past : (bs : List ℕ) (i : ℕ) → market (book-in bs) .bids ≤ i → fits (market (book-in bs) .hours (i + 1)) (supplies (book-in bs)) ≡ true
+fits-past : (bs : List ℕ) (i : ℕ) → market (book-in bs) .bids ≤ i → fits (market (book-in bs) .hours (i + 1)) (supplies (book-in bs)) ≡ true
 unfolding market fits no-bid
 fits-past bs i l = ap (λ (x : Bid). fits (x .hours) (supplies (book-in bs))) (bid-at-none bs (i + 1) (omega (arith, bids-count bs)))
 

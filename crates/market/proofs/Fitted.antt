@@ -2,24 +2,18 @@
 -- best-fitted. Assumes nothing.
 use mathlib.Core.Path.{_≡_, sym}
 use mathlib.Core.Bool.{true, and-true, and-eq-true-iff}
-use mathlib.Core.List.{List, [], _∷_}
-use Prim.Native.Nat.{ℕ, zero, suc, _≤_, _<_}
+use mathlib.Core.List.{List}
+use Prim.Native.Nat.{ℕ, _<_}
 use native.Mathlib.Nat.{le-trans, le-of-eq, le-antisymm}
 use native.Mathlib.Omega.{arith}
 use lib.ListN.{length}
 use Rattle.market.specs.Market.{Market, at, fits, Supplied}
 use Rattle.market.specs.Greatest.{best}
-use Rattle.market.specs.Combination.{Combination, worth}
+use Rattle.market.specs.Combination.{Combination}
 use Rattle.market.specs.Restrict.{fitted}
 use Rattle.market.proofs.Hours.{fits-if}
+use Rattle.market.proofs.Worth.{worth-one}
 use Rattle.market.proofs.Optimum.{greatest-attained, greatest-unbeaten}
-
--- a list is worth no less than one of its entries
-worth-one : (wt : ℕ → ℕ) (is : List ℕ) (k : ℕ) → k < length is → wt (at is k) ≤ worth wt is
-unfolding worth
-worth-one wt [] k l = absurd (omega arith)
-worth-one wt (i ∷ is) zero l = omega arith
-worth-one wt (i ∷ is) (suc k) l = omega (arith, worth-one wt is k (omega arith))
 
 module _ (nobody : ℕ) (m : Market) (n : ℕ) (supply : List ℕ) (s : Supplied m supply) where
   -- each bid of a combination fits the supply by itself

@@ -1,10 +1,12 @@
--- Laws of a list's worth: by smaller weights, by equal ones, by weights added up, and by none. The files on the greatest value cite
--- them. Assumes nothing.
+-- Laws of a list's worth: by smaller weights, by equal ones, by weights added up, by none, and by one entry. The files on the greatest
+-- value cite them. Assumes nothing.
 use mathlib.Core.Path.{_≡_, refl}
 use mathlib.Core.List.{List, [], _∷_}
-use Prim.Native.Nat.{ℕ, _+_, _≤_}
+use Prim.Native.Nat.{ℕ, zero, suc, _+_, _≤_, _<_}
 use native.Mathlib.Nat.{le-refl}
 use native.Mathlib.Omega.{arith}
+use lib.ListN.{length}
+use Rattle.market.specs.Market.{at}
 use Rattle.market.specs.Combination.{worth}
 use Rattle.market.proofs.Each.{Each}
 
@@ -27,3 +29,10 @@ pub worth-zero : (wt : ℕ → ℕ) (is : List ℕ) → Each (λ i. wt i ≡ 0) 
 unfolding worth
 worth-zero wt [] e = refl
 worth-zero wt (i ∷ is) e = omega (arith, e .0, worth-zero wt is (e .1))
+
+-- a list is worth no less than one of its entries
+pub worth-one : (wt : ℕ → ℕ) (is : List ℕ) (k : ℕ) → k < length is → wt (at is k) ≤ worth wt is
+unfolding worth
+worth-one wt [] k l = absurd (omega arith)
+worth-one wt (i ∷ is) zero l = omega arith
+worth-one wt (i ∷ is) (suc k) l = omega (arith, worth-one wt is k (omega arith))

@@ -3,6 +3,7 @@ use borrow.Author.Needs.{needs}
 use mathlib.Core.Path.{sym, ap, _∙_}
 use mathlib.Core.List.{List}
 use Prim.Native.Nat.{ℕ}
+use native.Mathlib.Omega.{arith}
 use Rattle.book.proofs.Soundness.{sound}
 use Rattle.lanes.specs.Lanes.{used}
 use Rattle.combinations.proofs.Refusals.{refusal-none, refused-not-zero}
@@ -12,7 +13,7 @@ use Rattle.lookups.proofs.lay_out.Tie as tie
 
 returns : tie.Need-returns
 returns c =
-    let no = refused-not-zero _ _ (c .before .refusal .ensures) (c .if1 .taken) in
+    let no = refused-not-zero _ (c .before .refusal .result) (c .before .refusal .ensures) (omega (arith, c .if1 .taken)) in
     record { numbered = c .before .refusal .ensures; supplied = rw no; looked = rw no }
 
 prepare-requires : tie.Need-prepare-requires
