@@ -6,3 +6,9 @@ pub mod Places
 pub mod Soundness
 pub mod Steps
 pub mod Tests
+pub mod Asking
+pub mod Counting
+pub mod Lists
+pub mod Parts
+pub mod Reserving
+pub mod Runs

@@ -5,3 +5,7 @@ pub mod Layout
 pub mod Questions
 pub mod Places
 pub mod Sound
+pub mod Counts
+pub mod KindReserves
+pub mod Rows
+pub mod Runs

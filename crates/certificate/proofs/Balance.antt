@@ -8,11 +8,11 @@ use lib.IntN.{ℤ, pos, natAbs, _+ℤ_, _-ℤ_, +ℤ-assoc, +ℤ-comm, +ℤ-neg�
 use Rattle.sets.specs.Sets.{single, holding}
 use Rattle.pricing.specs.Questions.{Asks, every, test, stationary}
 use Rattle.pricing.proofs.Questions.{every-iff, test-iff}
-use Rattle.ranges.specs.declared.Figures.{Figures}
+use Rattle.certificate.specs.declared.ranges.Figures.{Figures}
 use Rattle.pricing.specs.Ranges.{signed}
-use Rattle.ranges.specs.Figures.{at, above, below, certificate}
-use Rattle.ranges.proofs.Signed.{signed-parts}
-use Rattle.ranges.proofs.Tests.{eqb-iff, same-fact}
+use Rattle.certificate.specs.Figures.{at, above, below, certificate}
+use Rattle.certificate.proofs.Signed.{signed-parts}
+use Rattle.certificate.proofs.Tests.{eqb-iff, same-fact}
 
 right-comm : (a b c : ℤ) → a +ℤ b +ℤ c ≡ a +ℤ c +ℤ b
 right-comm a b c = +ℤ-assoc a b c ∙ ap (λ z. a +ℤ z) (+ℤ-comm b c) ∙ sym (+ℤ-assoc a c b)

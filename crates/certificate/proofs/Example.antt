@@ -6,13 +6,13 @@ use Prim.Native.Nat.{ℕ, _+_, _-_, _^_}
 use Rattle.sets.specs.Sums.{sum}
 use Rattle.sets.specs.Sets.{has, sum-in, over-sets, holding, single}
 use Rattle.pricing.specs.Questions.{every, every-set, same-signed, slack, test}
-use Rattle.ranges.specs.declared.Figures.{Figures}
+use Rattle.certificate.specs.declared.ranges.Figures.{Figures}
 use Rattle.pricing.specs.Ranges.{signed}
-use Rattle.ranges.specs.Figures.{at, certificate}
+use Rattle.certificate.specs.Figures.{at, certificate}
 use Rattle.pricing.specs.Ranges.{winners-at-most, sets-at-most, G-in-range, in-range}
-use Rattle.ranges.specs.Bounds.{tables-fit, reserve-in-range}
-use Rattle.discounts.specs.Questions.{reserve-kept, reserve-number, slack-test}
-use Rattle.certificate.specs.Questions.{first-failed, balances-number}
+use Rattle.certificate.specs.Bounds.{tables-fit, reserve-in-range}
+use Rattle.certificate.specs.DiscountRefusals.{reserve-kept, reserve-number, slack-test}
+use Rattle.certificate.specs.Refusals.{first-failed, balances-number}
 
 -- figures with s 1: by winner from winner 0, by set from set 0
 abbrev figures : (w q : ℕ) → (x z r t : List ℕ) → (g : ℕ) → (y u : List ℕ) → Figures

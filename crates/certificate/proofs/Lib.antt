@@ -2,3 +2,8 @@
 pub mod Balance
 pub mod Refusals
 pub mod Example
+pub mod DiscountRefusals
+pub mod InRange
+pub mod Signed
+pub mod Steps
+pub mod Tests

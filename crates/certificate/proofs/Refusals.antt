@@ -9,14 +9,14 @@ use Rattle.pricing.specs.Certificate.{Certificate, Within-sets, Balances, Certi
 use Rattle.pricing.specs.Questions.{Asks, test, within-sets, cover, totals, stationary, slack-sets, slack-reserve, slack-zero}
 use Rattle.pricing.proofs.Questions.{test-iff}
 use Rattle.pricing.specs.Ranges.{in-range}
-use Rattle.ranges.specs.Bounds.{tables-fit}
-use Rattle.ranges.specs.Ranges.{Ranges, Reserves}
-use Rattle.ranges.proofs.InRange.{in-range-iff}
-use Rattle.discounts.specs.Questions.{reserve-number, slack-test}
-use Rattle.discounts.specs.Ranges.{Ready}
-use Rattle.discounts.proofs.Refusals.{passed-iff, last-iff, out-of-range-iff, either-not-seven, either-most, given}
-use Rattle.discounts.proofs.Refusals.{reserve-number-zero, ready-iff, slack-test-iff}
-use Rattle.certificate.specs.Questions.{first-failed, balances-number}
+use Rattle.certificate.specs.Bounds.{tables-fit}
+use Rattle.certificate.specs.InRange.{Ranges, Reserves}
+use Rattle.certificate.proofs.InRange.{in-range-iff}
+use Rattle.certificate.specs.DiscountRefusals.{reserve-number, slack-test}
+use Rattle.certificate.specs.Readiness.{Ready}
+use Rattle.certificate.proofs.DiscountRefusals.{passed-iff, last-iff, out-of-range-iff, either-not-seven, either-most, given}
+use Rattle.certificate.proofs.DiscountRefusals.{reserve-number-zero, ready-iff, slack-test-iff}
+use Rattle.certificate.specs.Refusals.{first-failed, balances-number}
 
 -- QUESTION 7
 pub range-number-zero : (c : Certificate) → (_≡_ {A = ℕ} (cond (in-range c) 0 7) 0) ↔ Ranges c

@@ -1,3 +1,8 @@
 -- The numbers that refuse a certificate, and what must be in range for them.
-pub mod Questions
-pub mod Ranges
+pub mod Refusals
+pub mod Addends
+pub mod Bounds
+pub mod DiscountRefusals
+pub mod Figures
+pub mod InRange
+pub mod Readiness

@@ -2,13 +2,13 @@
 ghost use mathlib.Core.Path.{_≡_};
 ghost use Prim.Native.Nat.{ℕ};
 ghost use Rattle.pricing.specs.Questions.{test, cover, totals};
-ghost use Rattle.ranges.specs.Figures.{at, certificate};
-ghost use Rattle.ranges.specs.Ranges.{Ranges};
-ghost use Rattle.discounts.specs.Ranges.{Ready};
+ghost use Rattle.certificate.specs.Figures.{at, certificate};
+ghost use Rattle.certificate.specs.InRange.{Ranges};
+ghost use Rattle.certificate.specs.Readiness.{Ready};
+use crate::logic::both;
+use crate::ranges::Figures;
 use crate::sums::held;
 use crate::sums::sets_weighed;
-use ranges::Figures;
-use ranges::logic::both;
 
 // Question 12.
 pub(crate) fn all_covered(f: Figures) -> bool

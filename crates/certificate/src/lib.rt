@@ -2,19 +2,28 @@
 // has the figures' type too; questions 10, 11 and 15, which look at one bound after another, by crates/discounts.
 // A client may cite the contract of `balances`, which asks nothing, and the laws of the numbers that it answers, in proofs/Refusals.
 ghost use mathlib.Core.Path.{_≡_};
-ghost use Rattle.ranges.specs.Figures.{at, certificate};
-ghost use Rattle.certificate.specs.Questions.{balances-number};
+ghost use Rattle.certificate.specs.Figures.{at, certificate};
+ghost use Rattle.certificate.specs.Refusals.{balances-number};
 
+mod by_set;
+pub mod discounts;
 mod duals;
+mod limits;
+mod logic;
+mod most;
 mod nearest;
+pub mod ranges;
+mod signs;
+mod slack;
 mod sums;
+mod within;
 
-use discounts::bounded;
+use crate::discounts::bounded;
+use crate::logic::answer;
+use crate::ranges::Figures;
 use duals::all_covered;
 use duals::totals_meet;
 use nearest::all_balanced;
-use ranges::Figures;
-use ranges::logic::answer;
 
 // Questions 11 to 15: 0, the first that is answered by no, or 7 where a figure, a σ or a ρ is out of range.
 pub fn balances(f: Figures, sigma: [u64; 64], rho: [u64; 6]) -> u8

@@ -3,14 +3,14 @@ ghost use mathlib.Core.Path.{_≡_};
 ghost use Prim.Native.Nat.{ℕ, _+_, _*_};
 ghost use lib.Dec.{eqb};
 ghost use Rattle.pricing.specs.Questions.{test, stationary};
-ghost use Rattle.ranges.specs.Figures.{at, above, below, certificate};
-ghost use Rattle.discounts.specs.Ranges.{Sets-ready};
-ghost use Rattle.certificate.specs.Ranges.{Balance-fits};
+ghost use Rattle.certificate.specs.Figures.{at, above, below, certificate};
+ghost use Rattle.certificate.specs.Readiness.{Sets-ready};
+ghost use Rattle.certificate.specs.Addends.{Balance-fits};
+use crate::logic::both;
+use crate::ranges::Figures;
+use crate::signs::part_above;
+use crate::signs::part_below;
 use crate::sums::held;
-use ranges::Figures;
-use ranges::logic::both;
-use ranges::signs::part_above;
-use ranges::signs::part_below;
 
 // Whether q × σ - x is G + u + r - t, with what is taken away put on the other side.
 fn balanced(q: u64, sigma: u64, x: u64, g: u64, u: u64, r: u64, t: u64) -> bool

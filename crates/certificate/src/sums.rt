@@ -2,8 +2,8 @@
 ghost use mathlib.Core.Path.{_≡_};
 ghost use Prim.Native.Nat.{_≤_, _*_, _^_};
 ghost use Rattle.sets.specs.Sets.{over-sets, holding};
-ghost use Rattle.ranges.specs.Figures.{at};
-ghost use Rattle.certificate.specs.Ranges.{Holding-add, Sets-weigh};
+ghost use Rattle.certificate.specs.Figures.{at};
+ghost use Rattle.certificate.specs.Addends.{Holding-add, Sets-weigh};
 use numbers::share;
 
 // The sum over the sets that hold winner k: bit k of their numbers.

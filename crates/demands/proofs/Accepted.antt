@@ -13,9 +13,9 @@ use Rattle.pricing.specs.Fractions.{Fraction, over}
 use Rattle.pricing.specs.Discounts.{Proper, Reserve-kept, Sets-kept, own}
 use Rattle.pricing.proofs.Best.{own-reserve, own-sets}
 use Rattle.book.specs.Layout.{book-in}
-use Rattle.combinations.specs.Combinations.{Rising, worth}
-use Rattle.combinations.specs.Greatest.{greatest}
-use Rattle.combinations.proofs.Books.{combinations-agree}
+use Rattle.winners.specs.Combinations.{Rising, worth}
+use Rattle.winners.specs.Greatest.{greatest}
+use Rattle.winners.proofs.Books.{combinations-agree}
 use Rattle.demands.specs.Sheet.{Sheet}
 use Rattle.demands.specs.Winners.{sigma, rho}
 use Rattle.pricing.specs.Ranges.{scale-in-range, counts-in-range, winners-in-range, sets-in-range, in-range}

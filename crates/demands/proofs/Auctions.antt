@@ -22,11 +22,11 @@ use Rattle.market.proofs.Kept.{combination-kept}
 use Rattle.pricing.specs.Auction.{Auction}
 use Rattle.book.specs.Book.{Book, client-of, clients, supplies}
 use Rattle.book.specs.Layout.{book-in}
-use Rattle.combinations.specs.Combinations.{market, amount-of, Combination}
-use Rattle.combinations.specs.Greatest.{without, greatest-without, None-out}
-use Rattle.combinations.specs.Surplus.{picked}
-use Rattle.combinations.proofs.Greatest.{combination-without, greatest-value}
-use Rattle.combinations.proofs.Surplus.{picked-true, true-picked}
+use Rattle.winners.specs.Combinations.{market, amount-of, Combination}
+use Rattle.winners.specs.Greatest.{without, greatest-without, None-out}
+use Rattle.winners.specs.Surplus.{picked}
+use Rattle.winners.proofs.Greatest.{combination-without, greatest-value}
+use Rattle.winners.proofs.Surplus.{picked-true, true-picked}
 use Rattle.demands.specs.Winners.{clients-of}
 use Rattle.demands.proofs.Bools.{false-unless, same-test}
 use Rattle.demands.proofs.Keys.{Different, Absent, among, key-once}

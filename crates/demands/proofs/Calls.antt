@@ -16,9 +16,9 @@ use Rattle.book.specs.Book.{clients, standing, no-bid, bid-at, client-of, suppl
 use Rattle.book.specs.Layout.{book-long, K-of, n-of, m-of, statuses-from, bids-from, kind-here, kinds-in, bid-here, bids-in, book-in}
 use Rattle.book.specs.Questions.{version-good, book-formula, counts-good, kind-good, status-good, tables-good, bid-good}
 use Rattle.book.specs.Questions.{bids-of, few-bids, bids-good, reserves-met, amounts-good, book-refusal}
-use Rattle.combinations.specs.Combinations.{market, amount-of}
-use Rattle.combinations.specs.Greatest.{without, greatest-without, discarded, greatest}
-use Rattle.combinations.specs.Surplus.{any, picked, surplus}
+use Rattle.winners.specs.Combinations.{market, amount-of}
+use Rattle.winners.specs.Greatest.{without, greatest-without, discarded, greatest}
+use Rattle.winners.specs.Surplus.{any, picked, surplus}
 use Rattle.demands.specs.Sheet.{sheet-long, sheet-w, sheet-formula, winner-place, set-place}
 use Rattle.demands.specs.Sheet.{of-winner, of-set, numbers-in, sheet-in}
 use Rattle.demands.specs.Winners.{clients-of, sigma, win, reserves, rho}
@@ -27,7 +27,7 @@ use Rattle.pricing.specs.Ranges.{signed, winners-at-most, sets-at-most, G-in-ra
 use Rattle.demands.specs.Questions.{form-good, winners-good, value-good, certificate-tests, sheet-tests, first-no, judged}
 use Rattle.demands.specs.Input.{sheet-part, input-refusal}
 use Rattle.demands.specs.Answer.{price, acceptance, refusal, answer, answer-of}
-use Rattle.combinations.specs.Value.{value-refusal, value-of}
+use Rattle.winners.specs.Value.{value-refusal, value-of}
 
 -- what a call computes with
 unfoldable pub computed : Unit {0}

@@ -12,8 +12,8 @@ use borrow.Author.Tests.{eqb-true, eq-eqb, ne-eqb}
 use Rattle.sets.specs.Sums.{sum}
 use Rattle.sets.proofs.Sums.{sum-one, sum-zero}
 use Rattle.market.proofs.Bools.{either}
-use Rattle.combinations.specs.Surplus.{any}
-use Rattle.combinations.proofs.Surplus.{any-true, true-any}
+use Rattle.winners.specs.Surplus.{any}
+use Rattle.winners.proofs.Surplus.{any-true, true-any}
 use Rattle.demands.proofs.Bools.{false-unless}
 
 -- no two of the first w keys are equal

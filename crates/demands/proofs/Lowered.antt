@@ -23,7 +23,7 @@ use Rattle.pricing.proofs.Fractions.{Is, whole-is, zero-is, plus-is, minus-is, 
 use Rattle.pricing.proofs.Discounts.{at-most-same}
 use Rattle.book.specs.Book.{Book, client-of, clients, supplies}
 use Rattle.book.specs.Layout.{book-in}
-use Rattle.combinations.specs.Combinations.{market, amount-of, Combination}
+use Rattle.winners.specs.Combinations.{market, amount-of, Combination}
 use Rattle.demands.specs.Winners.{win}
 use Rattle.demands.specs.Discounts.{discount-of, lowered, lowered-worth, None-better}
 use Rattle.demands.specs.OneDenominator.{numerator-of, lowered-over}

@@ -13,11 +13,11 @@ use Rattle.book.specs.Layout.{book-in}
 use Rattle.book.specs.Questions.{book-refusal}
 use Rattle.book.proofs.Places.{bids-count}
 use Rattle.book.proofs.Soundness.{sound}
-use Rattle.combinations.specs.Combinations.{market, amount-of, Combination}
-use Rattle.combinations.specs.Greatest.{None-out, Greatest-value}
-use Rattle.combinations.specs.Surplus.{picked}
-use Rattle.combinations.proofs.Books.{combinations-agree}
-use Rattle.combinations.proofs.Surplus.{picked-true, true-picked, surplus-is}
+use Rattle.winners.specs.Combinations.{market, amount-of, Combination}
+use Rattle.winners.specs.Greatest.{None-out, Greatest-value}
+use Rattle.winners.specs.Surplus.{picked}
+use Rattle.winners.proofs.Books.{combinations-agree}
+use Rattle.winners.proofs.Surplus.{picked-true, true-picked, surplus-is}
 use Rattle.demands.specs.Winners.{clients-of, sigma, win, reserves, rho}
 use Rattle.demands.specs.Questions.{winners-good}
 use Rattle.demands.specs.Input.{book, sheet, Accepted}

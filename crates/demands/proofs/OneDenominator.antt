@@ -23,8 +23,8 @@ use Rattle.pricing.proofs.Discounts.{reserve-whole, sets-whole, inferior-whole}
 use Rattle.pricing.proofs.Best.{own-is}
 use Rattle.book.specs.Book.{clients, supplies}
 use Rattle.book.specs.Layout.{book-in}
-use Rattle.combinations.specs.Combinations.{market}
-use Rattle.combinations.proofs.Books.{supplied, combinations-agree}
+use Rattle.winners.specs.Combinations.{market}
+use Rattle.winners.proofs.Books.{supplied, combinations-agree}
 use Rattle.demands.specs.Winners.{sigma, rho}
 use Rattle.demands.specs.Questions.{winners-good}
 use Rattle.demands.specs.Input.{book, sheet, Accepted}

@@ -14,8 +14,8 @@ use Rattle.pricing.proofs.Questions.{test-iff}
 use Rattle.book.specs.Book.{Book}
 use Rattle.book.specs.Layout.{book-in}
 use Rattle.book.specs.Questions.{version-good, counts-good, tables-good, bids-good, amounts-good, book-refusal}
-use Rattle.combinations.specs.Combinations.{worth}
-use Rattle.combinations.specs.Greatest.{greatest}
+use Rattle.winners.specs.Combinations.{worth}
+use Rattle.winners.specs.Greatest.{greatest}
 use Rattle.demands.specs.Sheet.{Sheet}
 use Rattle.demands.specs.Winners.{sigma, rho}
 use Rattle.pricing.specs.Ranges.{in-range}

@@ -18,11 +18,11 @@ use Rattle.pricing.proofs.Discounts.{none-whole}
 use Rattle.pricing.proofs.Best.{fraction-sets-suffice}
 use Rattle.book.specs.Book.{Book}
 use Rattle.book.specs.Layout.{book-in}
-use Rattle.combinations.specs.Combinations.{amount-of, Combination, worth}
-use Rattle.combinations.specs.Greatest.{greatest, greatest-without, None-out}
-use Rattle.combinations.specs.Surplus.{picked}
-use Rattle.combinations.proofs.Greatest.{greatest-value, greatest-only-one, greatest-all}
-use Rattle.combinations.proofs.Surplus.{surplus-is}
+use Rattle.winners.specs.Combinations.{amount-of, Combination, worth}
+use Rattle.winners.specs.Greatest.{greatest, greatest-without, None-out}
+use Rattle.winners.specs.Surplus.{picked}
+use Rattle.winners.proofs.Greatest.{greatest-value, greatest-only-one, greatest-all}
+use Rattle.winners.proofs.Surplus.{surplus-is}
 use Rattle.demands.specs.Winners.{clients-of, sigma, win, rho}
 use Rattle.demands.specs.Discounts.{None-better}
 use Rattle.demands.specs.Acceptable.{Optimal}

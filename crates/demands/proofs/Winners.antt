@@ -7,7 +7,7 @@ use native.Mathlib.Omega.{arith}
 use lib.ListN.{length, length-map, List·getD-map, List·getD-eq-default}
 use Rattle.market.specs.Market.{at}
 use Rattle.book.specs.Book.{Book, no-bid, bid-at, client-of}
-use Rattle.combinations.specs.Combinations.{amount-of}
+use Rattle.winners.specs.Combinations.{amount-of}
 use Rattle.demands.specs.Winners.{clients-of, win, rho}
 
 -- the client of winner k

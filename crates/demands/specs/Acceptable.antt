@@ -8,7 +8,7 @@ use Rattle.pricing.specs.Certificate.{Balances}
 use Rattle.pricing.specs.Discounts.{own}
 use Rattle.book.specs.Book.{Book}
 use Rattle.book.specs.Questions.{book-refusal}
-use Rattle.combinations.specs.Combinations.{Combination, Rising, worth}
+use Rattle.winners.specs.Combinations.{Combination, Rising, worth}
 use Rattle.demands.specs.Sheet.{Sheet}
 use Rattle.demands.specs.Winners.{sigma, rho}
 use Rattle.pricing.specs.Ranges.{in-range}

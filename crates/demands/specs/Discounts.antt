@@ -9,7 +9,7 @@ use lib.ListN.{length, getD}
 use Rattle.pricing.specs.Fractions.{Fraction, whole, plus, minus, AtMost}
 use Rattle.pricing.specs.Discounts.{Proper, Reserve-kept}
 use Rattle.book.specs.Book.{Book, client-of}
-use Rattle.combinations.specs.Combinations.{amount-of, Combination}
+use Rattle.winners.specs.Combinations.{amount-of, Combination}
 use Rattle.demands.specs.Winners.{rho}
 
 -- the j-th of a list of discounts

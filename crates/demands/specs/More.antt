@@ -14,7 +14,7 @@ use Rattle.pricing.specs.Discounts.{Reserve-kept, Sets-kept}
 use Rattle.book.specs.Book.{Book, client-of}
 use Rattle.book.specs.Layout.{book-long, book-in}
 use Rattle.book.specs.Questions.{book-refusal}
-use Rattle.combinations.specs.Combinations.{Combination, Rising, worth}
+use Rattle.winners.specs.Combinations.{Combination, Rising, worth}
 use Rattle.demands.specs.Sheet.{sheet-in}
 use Rattle.demands.specs.Winners.{sigma, win, reserves, rho}
 use Rattle.demands.specs.Questions.{form-good, winners-good, judged}

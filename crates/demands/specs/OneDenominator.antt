@@ -14,8 +14,8 @@ use Rattle.pricing.specs.Certificate.{Within-reserve, Within-sets, Worse}
 use Rattle.pricing.specs.Questions.{every}
 use Rattle.book.specs.Book.{Book, client-of}
 use Rattle.book.specs.Layout.{book-in}
-use Rattle.combinations.specs.Combinations.{amount-of, worth}
-use Rattle.combinations.specs.Greatest.{greatest}
+use Rattle.winners.specs.Combinations.{amount-of, worth}
+use Rattle.winners.specs.Greatest.{greatest}
 use Rattle.demands.specs.Winners.{sigma, rho}
 use Rattle.demands.specs.Questions.{winners-good}
 use Rattle.demands.specs.Input.{book, sheet, Accepted}

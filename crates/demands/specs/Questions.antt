@@ -10,8 +10,8 @@ use Rattle.pricing.specs.Certificate.{Certificate}
 use Rattle.pricing.specs.Questions.{test, within-reserve, within-sets, cover, totals, stationary, slack-sets, slack-reserve, slack-zero}
 use Rattle.book.specs.Bytes.{byte}
 use Rattle.book.specs.Book.{Book, clients, supplies}
-use Rattle.combinations.specs.Combinations.{market, worth}
-use Rattle.combinations.specs.Greatest.{greatest}
+use Rattle.winners.specs.Combinations.{market, worth}
+use Rattle.winners.specs.Greatest.{greatest}
 use Rattle.demands.specs.Sheet.{Sheet, sheet-long, sheet-w, sheet-formula}
 use Rattle.demands.specs.Winners.{sigma, rho}
 use Rattle.pricing.specs.Ranges.{in-range}

@@ -4,8 +4,8 @@ use mathlib.Core.List.{List, map}
 use Prim.Native.Nat.{ℕ, _-_}
 use Rattle.market.specs.Market.{at}
 use Rattle.book.specs.Book.{Book, bid-at, client-of, reserves-of}
-use Rattle.combinations.specs.Combinations.{amount-of}
-use Rattle.combinations.specs.Surplus.{surplus}
+use Rattle.winners.specs.Combinations.{amount-of}
+use Rattle.winners.specs.Surplus.{surplus}
 
 -- the winners' clients, one for each winner
 unfoldable pub clients-of : Book → (winners : List ℕ) → List ℕ

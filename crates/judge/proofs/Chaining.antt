@@ -3,8 +3,8 @@ use mathlib.Core.Path.{_≡_}
 use mathlib.Core.Bool.{true, false, cond, and-assoc}
 use Rattle.pricing.specs.Ranges.{in-range}
 use Rattle.pricing.specs.Questions.{test, within-reserve, slack-sets, slack-reserve, slack-zero}
-use Rattle.discounts.specs.Questions.{slack-test}
-use Rattle.certificate.specs.Questions.{first-failed}
+use Rattle.certificate.specs.DiscountRefusals.{slack-test}
+use Rattle.certificate.specs.Refusals.{first-failed}
 use Rattle.book.specs.Book.{Book}
 use Rattle.demands.specs.Sheet.{Sheet}
 use Rattle.demands.specs.Winners.{sigma, rho}

@@ -19,18 +19,18 @@ use Rattle.book.specs.Book.{client-of, clients, supplies}
 use Rattle.book.specs.Layout.{n-of}
 use Rattle.book.specs.Questions.{book-refusal}
 use Rattle.book.proofs.Places.{clients-count}
-use Rattle.combinations.specs.Combinations.{market, Rising, worth}
-use Rattle.combinations.specs.Greatest.{greatest}
-use Rattle.combinations.specs.Surplus.{surplus}
-use Rattle.choice.specs.Chosen.{choice-good, choice-refusal, six, Chosen-is}
+use Rattle.winners.specs.Combinations.{market, Rising, worth}
+use Rattle.winners.specs.Greatest.{greatest}
+use Rattle.winners.specs.Surplus.{surplus}
+use Rattle.winners.specs.Chosen.{choice-good, choice-refusal, six, Chosen-is}
 use Rattle.winners.specs.Surpluses.{rising-to, list-good, list-refusal, surplus-table, Surpluses-are}
-use Rattle.ranges.specs.Figures.{certificate}
-use Rattle.ranges.specs.declared.Figures.{Figures}
+use Rattle.certificate.specs.Figures.{certificate}
+use Rattle.certificate.specs.declared.ranges.Figures.{Figures}
 use Rattle.demands.specs.Input.{book, sheet}
 use Rattle.demands.specs.Questions.{winners-good, value-good, judged}
 use Rattle.demands.specs.Winners.{clients-of, sigma}
 use Rattle.demands.proofs.Winners.{clients-length, clients-at}
-use Rattle.judge.specs.Needs.{Read, Bounded}
+use Rattle.judge.specs.ReadSheet.{Read, Bounded}
 use Rattle.judge.specs.Chain.{certificate-judged}
 use Rattle.judge.proofs.Chaining.{judged-range, judged-winners, judged-value, judged-certificate}
 use Rattle.judge.proofs.Reading.{read-w, read-few, read-count, read-bids}

@@ -10,17 +10,17 @@ use native.Mathlib.Omega.{arith}
 use borrow.Author.Tests.{ne-eqb}
 use Rattle.market.specs.Market.{at}
 use Rattle.book.specs.Questions.{book-refusal}
-use Rattle.ranges.specs.declared.Figures.{Figures}
+use Rattle.certificate.specs.declared.ranges.Figures.{Figures}
 use Rattle.demands.specs.Input.{book, sheet, sheet-part, input-refusal, Accepted}
 use Rattle.demands.specs.Questions.{form-good, judged}
 use Rattle.demands.specs.Answer.{Answer, answer-of, acceptance, refusal}
 use Rattle.demands.specs.Promise.{Demand-1}
 use Rattle.demands.proofs.Promise.{demand-1, demand-2, demand-3}
 use Rattle.demands.proofs.Answer.{answer-accepted, answer-refused, answered}
-use Rattle.prices.specs.declared.Prices.{Prices}
-use Rattle.prices.specs.Answers.{answer-in, acceptance-with}
+use Rattle.judge.specs.declared.prices.Prices.{Prices}
+use Rattle.judge.specs.Acceptance.{answer-in, acceptance-with}
 use Rattle.judge.specs.Judgement.{Judgement}
-use Rattle.judge.specs.Needs.{Read}
+use Rattle.judge.specs.ReadSheet.{Read}
 use Rattle.judge.proofs.Reading.{read-accepted}
 
 pub judgement : (bs : List ℕ) (r : Prices) → answer-in r ≡ answer-of bs → Judgement bs r

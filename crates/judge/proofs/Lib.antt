@@ -5,3 +5,11 @@ pub mod Reading
 pub mod Limits
 pub mod Choices
 pub mod Parts
+pub mod Example
+pub mod Filled
+pub mod Formed
+pub mod Numbers
+pub mod Outcomes
+pub mod Padded
+pub mod Uses
+pub mod Winners

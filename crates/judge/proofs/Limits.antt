@@ -14,21 +14,21 @@ use Rattle.pricing.proofs.Agree.{test-agree}
 use Rattle.market.specs.Market.{at}
 use Rattle.market.proofs.Bools.{either}
 use Rattle.book.proofs.Soundness.{sound}
-use Rattle.combinations.specs.Greatest.{greatest}
-use Rattle.combinations.specs.Surplus.{surplus}
-use Rattle.combinations.proofs.Most.{amount-most, greatest-most}
-use Rattle.ranges.specs.Figures.{certificate}
-use Rattle.ranges.specs.declared.Figures.{Figures}
-use Rattle.ranges.specs.Ranges.{Ranges, Reserves, Winners-under, Sets-under}
-use Rattle.discounts.specs.Questions.{reserve-kept, reserve-number, slack-test}
-use Rattle.certificate.specs.Questions.{first-failed, balances-number}
-use Rattle.ranges.proofs.InRange.{in-range-iff, reserve-in-range-iff}
-use Rattle.discounts.proofs.Refusals.{reserve-kept-test}
+use Rattle.winners.specs.Greatest.{greatest}
+use Rattle.winners.specs.Surplus.{surplus}
+use Rattle.winners.proofs.Most.{amount-most, greatest-most}
+use Rattle.certificate.specs.Figures.{certificate}
+use Rattle.certificate.specs.declared.ranges.Figures.{Figures}
+use Rattle.certificate.specs.InRange.{Ranges, Reserves, Winners-under, Sets-under}
+use Rattle.certificate.specs.DiscountRefusals.{reserve-kept, reserve-number, slack-test}
+use Rattle.certificate.specs.Refusals.{first-failed, balances-number}
+use Rattle.certificate.proofs.InRange.{in-range-iff, reserve-in-range-iff}
+use Rattle.certificate.proofs.DiscountRefusals.{reserve-kept-test}
 use Rattle.certificate.proofs.Refusals.{balances-number-first}
 use Rattle.demands.specs.Input.{book, sheet}
 use Rattle.demands.specs.Winners.{sigma, win, rho}
 use Rattle.demands.proofs.Winners.{rho-most}
-use Rattle.judge.specs.Needs.{Bounded}
+use Rattle.judge.specs.ReadSheet.{Bounded}
 use Rattle.judge.specs.Chain.{certificate-judged}
 use Rattle.judge.proofs.Chaining.{certificate-first}
 use Rattle.judge.proofs.Reading.{read-bids}

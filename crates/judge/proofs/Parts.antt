@@ -15,14 +15,14 @@ use Rattle.book.specs.Questions.{book-refusal}
 use Rattle.book.proofs.Places.{clients-count}
 use Rattle.book.proofs.Soundness.{sound}
 use Rattle.market.proofs.Bools.{either}
-use Rattle.ranges.specs.declared.Figures.{Figures}
-use Rattle.ranges.proofs.InRange.{in-range-iff}
-use Rattle.sheet.specs.declared.Sheet.{Sheet}
-use Rattle.sheet.specs.Reading.{Sheet-read}
-use Rattle.sheet.proofs.Uses.{read-number, slice-rest}
+use Rattle.certificate.specs.declared.ranges.Figures.{Figures}
+use Rattle.certificate.proofs.InRange.{in-range-iff}
+use Rattle.judge.specs.declared.sheet.Sheet.{Sheet}
+use Rattle.judge.specs.Reading.{Sheet-read}
+use Rattle.judge.proofs.Uses.{read-number, slice-rest}
 use Rattle.demands.specs.Input.{book, sheet, sheet-part}
 use Rattle.demands.specs.Questions.{form-good, judged}
-use Rattle.judge.specs.Needs.{Read}
+use Rattle.judge.specs.ReadSheet.{Read}
 use Rattle.judge.proofs.Chaining.{judged-range}
 use Rattle.judge.proofs.Choices.{answered-no, answered-yes}
 

@@ -16,17 +16,17 @@ use Rattle.pricing.specs.Certificate.{Certificate}
 use Rattle.market.specs.Market.{at}
 use Rattle.market.proofs.Bools.{cond-false}
 use Rattle.book.specs.Book.{Book}
-use Rattle.combinations.specs.Combinations.{amount-of}
-use Rattle.ranges.specs.declared.Figures.{Figures}
-use Rattle.sheet.specs.Reading.{six-of}
+use Rattle.winners.specs.Combinations.{amount-of}
+use Rattle.certificate.specs.declared.ranges.Figures.{Figures}
+use Rattle.judge.specs.Reading.{six-of}
 use Rattle.demands.specs.Sheet.{Sheet}
 use Rattle.demands.specs.Input.{book, sheet, sheet-part}
 use Rattle.demands.specs.Winners.{win}
 use Rattle.demands.specs.Answer.{price, acceptance}
 use Rattle.demands.proofs.Sheet.{sheet-winners}
 use Rattle.demands.proofs.Form.{form-few, clients-few}
-use Rattle.prices.specs.Answers.{paid, acceptance-with}
-use Rattle.judge.specs.Needs.{Read}
+use Rattle.judge.specs.Acceptance.{paid, acceptance-with}
+use Rattle.judge.specs.ReadSheet.{Read}
 
 -- what is paid for bids of which the first are a sheet's is the sheet's price
 paid-price : (b : Book) (h : Sheet) (bids : List ℕ) → take (h .numbers .w) bids ≡ h .bids → (k : ℕ)

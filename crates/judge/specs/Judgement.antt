@@ -7,8 +7,8 @@ use Prim.Native.Nat.{ℕ, _≤_}
 use Rattle.demands.specs.Input.{book, sheet, input-refusal, Accepted}
 use Rattle.demands.specs.Answer.{answer-of, Priced, Zeros}
 use Rattle.demands.specs.Promise.{Demand-2, Demand-3}
-use Rattle.prices.specs.declared.Prices.{Prices}
-use Rattle.prices.specs.Answers.{answer-in}
+use Rattle.judge.specs.declared.prices.Prices.{Prices}
+use Rattle.judge.specs.Acceptance.{answer-in}
 
 pub record Judgement (input : List ℕ) (r : Prices) : Type 0 where
   -- number, w, q and all six places, zeros after a refusal included

@@ -1,3 +1,7 @@
 pub mod Judgement
 pub mod Chain
-pub mod Needs
+pub mod ReadSheet
+pub mod Acceptance
+pub mod Columns
+pub mod FormTest
+pub mod Reading

@@ -1,9 +1,13 @@
 // Questions 7 to 15 in their order, put to a sheet that has been read: the number of the first that is answered no.
-use ranges::Figures;
+use crate::prices;
+use certificate::discounts;
+use certificate::ranges;
+use certificate::ranges::Figures;
+use winners::choice;
 ghost use mathlib.Core.Path.{_≡_};
 ghost use Rattle.demands.specs.Input.{book, sheet};
 ghost use Rattle.demands.specs.Questions.{judged};
-ghost use Rattle.judge.specs.Needs.{Read, Bounded};
+ghost use Rattle.judge.specs.ReadSheet.{Read, Bounded};
 ghost use Rattle.judge.specs.Chain.{certificate-judged};
 
 // Questions 10 to 15, given σ of every set of winners.

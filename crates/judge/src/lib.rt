@@ -3,7 +3,13 @@
 // What a client may cite: `judge_sheet`, which takes any input and asks nothing, with its contract `Judgement` (specs/Judgement.antt): every
 // field of the answer as a value, and demands 1, 2 and 3 on it. The answer is a `Prices` of crates/prices.
 mod chain;
+mod columns;
+mod figures;
+mod form;
+pub mod prices;
+pub mod sheet;
 
+use book::questions;
 ghost use Rattle.judge.specs.Judgement.{Judgement};
 use book::layout;
 pub use prices::Prices;

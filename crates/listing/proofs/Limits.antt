@@ -15,9 +15,9 @@ use Rattle.book.proofs.Places.{bids-count}
 use Rattle.book.proofs.Products.{product-most}
 use Rattle.book.proofs.Soundness.{sound}
 use Rattle.sets.proofs.Tables.{tabulate-at}
-use Rattle.combinations.specs.Combinations.{market, amount-of}
-use Rattle.ranges.specs.Ranges.{Ranges}
-use Rattle.ranges.proofs.InRange.{in-range-iff}
+use Rattle.winners.specs.Combinations.{market, amount-of}
+use Rattle.certificate.specs.InRange.{Ranges}
+use Rattle.certificate.proofs.InRange.{in-range-iff}
 use Rattle.demands.specs.Winners.{win}
 use Rattle.demands.specs.Input.{book, sheet, sheet-part, input-refusal, Accepted}
 use Rattle.demands.specs.Answer.{Answer, price, acceptance, answer-of}

@@ -2,6 +2,7 @@
 use book::bytes;
 use book::entries;
 use book::layout;
+use book::questions;
 
 // The bytes after the first n.
 pub(crate) fn after(s: &[u8], n: usize) -> &[u8] {

@@ -2,6 +2,7 @@
 use crate::answer;
 use book::bytes;
 use libc::STDOUT_FILENO;
+use winners::choice;
 
 fn print_next(n: u64) {
     io::write_all(STDOUT_FILENO, b" ");

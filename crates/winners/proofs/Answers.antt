@@ -15,12 +15,12 @@ use Rattle.book.specs.Questions.{book-refusal}
 use Rattle.book.specs.Sound.{Sound}
 use Rattle.book.proofs.Soundness.{sound}
 use Rattle.market.proofs.Bools.{either}
-use Rattle.combinations.specs.Greatest.{greatest}
-use Rattle.combinations.specs.Surplus.{surplus}
-use Rattle.combinations.proofs.Surplus.{surplus-is}
+use Rattle.winners.specs.Greatest.{greatest}
+use Rattle.winners.specs.Surplus.{surplus}
+use Rattle.winners.proofs.Surplus.{surplus-is}
 use Rattle.winners.specs.Surpluses.{rising-to, list-good, list-refusal, surplus-table, Surpluses-are}
 use Rattle.sets.proofs.Tables.{tabulate-at}
-use Rattle.combinations.proofs.Refusals.{refused-not-zero}
+use Rattle.winners.proofs.Refusals.{refused-not-zero}
 use Rattle.winners.proofs.Picks.{rising-more}
 
 module _ (bs cs : List ℕ) (w : ℕ) where

@@ -13,7 +13,7 @@ use Rattle.sets.specs.Sets.{set-of}
 use Rattle.sets.proofs.Members.{has-above, has-last, has-same}
 use Rattle.sets.proofs.Prefixes.{prefix-length, prefix-at}
 use Rattle.market.specs.Market.{at}
-use Rattle.combinations.proofs.Surplus.{any-ext}
+use Rattle.winners.proofs.Surplus.{any-ext}
 use Rattle.winners.specs.Needs.{Listed, Room, Doubled, Discards}
 use Rattle.winners.proofs.Tables.{shl-one}
 use Rattle.winners.proofs.Picks.{early, byte-none, byte-with, byte-without, byte-all, byte-small, listed-range}

@@ -18,9 +18,9 @@ use Rattle.sets.proofs.Prefixes.{prefix-length, prefix-at}
 use Rattle.sets.proofs.Members.{has-zero, has-set-of, set-of-lt, set-of-add, has-above}
 use Rattle.market.specs.Market.{at}
 use Rattle.market.proofs.Bools.{either}
-use Rattle.combinations.specs.Greatest.{discarded}
-use Rattle.combinations.specs.Surplus.{any, picked}
-use Rattle.combinations.proofs.Surplus.{picked-true}
+use Rattle.winners.specs.Greatest.{discarded}
+use Rattle.winners.specs.Surplus.{any, picked}
+use Rattle.winners.proofs.Surplus.{picked-true}
 use Rattle.winners.specs.Needs.{Listed}
 use Rattle.winners.specs.Surpluses.{rising-to}
 

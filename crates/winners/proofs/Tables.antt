@@ -13,9 +13,9 @@ use lib.Seq.{ext-getD, getD-set-same, getD-set-other}
 use Rattle.sets.specs.Sets.{set-of}
 use Rattle.sets.proofs.Tables.{tabulate-at, tabulate-length}
 use Rattle.book.specs.Layout.{book-in}
-use Rattle.combinations.specs.Greatest.{greatest, greatest-without}
-use Rattle.combinations.specs.Surplus.{picked, surplus}
-use Rattle.values.specs.Values.{values-of}
+use Rattle.winners.specs.Greatest.{greatest, greatest-without}
+use Rattle.winners.specs.Surplus.{picked, surplus}
+use Rattle.winners.specs.Values.{values-of}
 use Rattle.winners.specs.Needs.{Listed, Discards, Differences}
 use Rattle.winners.specs.Surpluses.{rising-to, surplus-table}
 use Rattle.winners.proofs.Picks.{byte-picks, picked-none}

@@ -1,3 +1,16 @@
 pub mod Worth
 pub mod Surpluses
 pub mod Needs
+pub mod Choosing
+pub mod Chosen
+pub mod Combinations
+pub mod Four
+pub mod Greatest
+pub mod Lanes
+pub mod Looks
+pub mod Placement
+pub mod Prepared
+pub mod Searching
+pub mod Surplus
+pub mod Value
+pub mod Values

@@ -7,7 +7,7 @@ use Prim.Native.Nat.{ℕ, suc, _+_, _-_, _^_, _≤_, _<_}
 use lib.Dec.{ltb}
 use lib.ListN.{length, getD, take}
 use Rattle.sets.specs.Sets.{set-of}
-use Rattle.combinations.specs.Surplus.{picked}
+use Rattle.winners.specs.Surplus.{picked}
 use Rattle.winners.specs.Surpluses.{rising-to}
 
 -- at most six clients from 1 to 6, strictly rising

@@ -9,8 +9,8 @@ use lib.ListN.{getD, take, replicate}
 use Rattle.sets.specs.Tables.{tabulate}
 use Rattle.book.specs.Layout.{n-of, book-in}
 use Rattle.book.specs.Questions.{book-refusal}
-use Rattle.combinations.specs.Greatest.{greatest}
-use Rattle.combinations.specs.Surplus.{surplus, Surplus-is}
+use Rattle.winners.specs.Greatest.{greatest}
+use Rattle.winners.specs.Surplus.{surplus, Surplus-is}
 
 -- clients after c and up to n, strictly rising
 unfoldable pub rising-to : (n c : ℕ) → List ℕ → Bool

@@ -4,8 +4,8 @@ use mathlib.Core.Path.{_≡_}
 use mathlib.Core.List.{List}
 use Prim.Native.Nat.{ℕ}
 use Rattle.book.specs.Layout.{book-in}
-use Rattle.combinations.specs.Greatest.{discarded, Greatest-value}
-use Rattle.combinations.specs.Value.{value-of}
+use Rattle.winners.specs.Greatest.{discarded, Greatest-value}
+use Rattle.winners.specs.Value.{value-of}
 
 -- every field by value; and what the value is
 pub record Worth-is (bs : List ℕ) (discard number value : ℕ) : Type 0 where

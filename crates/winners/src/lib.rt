@@ -11,3 +11,13 @@ pub use table::SigmaTable;
 pub use table::surpluses;
 pub use value::Worth;
 pub use value::greatest_value;
+
+mod array;
+pub mod choice;
+mod hours;
+mod lanes;
+mod lookups;
+mod places;
+mod search;
+mod tops;
+mod values;

@@ -1,6 +1,8 @@
 // v and σ of every set of a list of clients: questions 1 to 5 once, and each set weighed once.
 use crate::lists;
+use crate::values;
 use book::layout;
+use book::questions;
 ghost use mathlib.Core.Path.{_≡_};
 ghost use mathlib.Core.Bool.{cond};
 ghost use Prim.Native.Nat.{_^_, _≤_};

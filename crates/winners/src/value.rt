@@ -1,4 +1,5 @@
 // The greatest value with clients discarded: questions 1 to 5, 16, and the value.
+use crate::values;
 use book::layout;
 ghost use mathlib.Core.Path.{_≡_};
 ghost use Rattle.winners.specs.Worth.{Worth-is};

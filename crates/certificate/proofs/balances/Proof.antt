@@ -5,11 +5,11 @@ use Prim.Native.Nat.{ℕ}
 use lib.Dec.{eqb}
 use Rattle.pricing.specs.Certificate.{Certificate}
 use Rattle.pricing.specs.Questions.{test, within-sets, cover, totals, stationary}
-use Rattle.ranges.specs.Figures.{at, certificate}
-use Rattle.discounts.specs.Questions.{slack-test}
-use Rattle.discounts.specs.Ranges.{Ready}
-use Rattle.discounts.proofs.Refusals.{bounded-number-seven, bounded-number-ready, bounded-number-first}
-use Rattle.certificate.specs.Questions.{first-failed}
+use Rattle.certificate.specs.Figures.{at, certificate}
+use Rattle.certificate.specs.DiscountRefusals.{slack-test}
+use Rattle.certificate.specs.Readiness.{Ready}
+use Rattle.certificate.proofs.DiscountRefusals.{bounded-number-seven, bounded-number-ready, bounded-number-first}
+use Rattle.certificate.specs.Refusals.{first-failed}
 use Rattle.certificate.proofs.Refusals.{balances-number-seven, balances-number-first}
 use borrow.Author.Needs.{needs}
 use Rattle.certificate.proofs.balances.Statement.{statement}

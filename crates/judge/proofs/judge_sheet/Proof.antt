@@ -5,7 +5,7 @@ use native.Mathlib.Omega.{arith}
 use Rattle.judge.proofs.Judging.{judgement, refused-book, refused-form, refused-sheet, accepted-read}
 use Rattle.judge.proofs.Reading.{read-few}
 use Rattle.judge.proofs.Parts.{form-no, form-yes, accepted-q}
-use Rattle.combinations.proofs.Refusals.{refusal-none}
+use Rattle.winners.proofs.Refusals.{refusal-none}
 use Rattle.book.proofs.Soundness.{sound}
 use Rattle.judge.proofs.judge_sheet.Statement.{statement}
 use Rattle.judge.proofs.judge_sheet.Tie as tie

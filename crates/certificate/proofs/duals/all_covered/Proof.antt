@@ -4,8 +4,8 @@ use Prim.Native.Nat.{_-_, _+_, _≤_}
 use lib.Dec.{leb}
 use Rattle.sets.specs.Sets.{holding}
 use Rattle.pricing.specs.Questions.{every, test}
-use Rattle.ranges.specs.Figures.{at}
-use Rattle.ranges.proofs.Steps.{every-more, every-end}
+use Rattle.certificate.specs.Figures.{at}
+use Rattle.certificate.proofs.Steps.{every-more, every-end}
 use borrow.Author.Needs.{needs}
 use native.Mathlib.Omega.{arith}
 use Rattle.certificate.proofs.duals.all_covered.Statement.{statement}

@@ -5,8 +5,8 @@ use Prim.Native.Nat.{_-_, _+_, _*_, _^_, _≤_}
 use native.Mathlib.Nat.{mul-le-mul}
 use Rattle.sets.specs.Sums.{sum}
 use Rattle.pricing.specs.Questions.{test}
-use Rattle.ranges.specs.Figures.{at}
-use Rattle.ranges.proofs.Steps.{sum-more, sum-end}
+use Rattle.certificate.specs.Figures.{at}
+use Rattle.certificate.proofs.Steps.{sum-more, sum-end}
 use native.Mathlib.Omega.{arith}
 use borrow.Author.Needs.{needs}
 use Rattle.certificate.proofs.duals.totals_meet.Statement.{statement}

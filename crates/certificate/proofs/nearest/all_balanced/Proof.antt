@@ -3,8 +3,8 @@ use mathlib.Core.Path.{_≡_, refl, _∙_}
 use Prim.Native.Nat.{_-_, _*_, _%_, _^_, _≤_, _<_}
 use Rattle.sets.specs.Sets.{single}
 use Rattle.pricing.specs.Questions.{every}
-use Rattle.ranges.specs.Figures.{at}
-use Rattle.ranges.proofs.Steps.{shifted, power-most, every-more, every-end}
+use Rattle.certificate.specs.Figures.{at}
+use Rattle.certificate.proofs.Steps.{shifted, power-most, every-more, every-end}
 use lib.Dec.{eqb}
 use lib.Pow.{pow-lt}
 use Rattle.certificate.proofs.Balance.{claimed, carried, stationary-balance}

@@ -1,7 +1,7 @@
 -- `nearest::balanced` meets its contract: no sum is above 10^14. Assumes nothing.
 use Prim.Native.Nat.{_*_, _^_, _≤_}
 use native.Mathlib.Nat.{mul-le-mul}
-use Rattle.ranges.proofs.Signed.{signed-magnitude}
+use Rattle.certificate.proofs.Signed.{signed-magnitude}
 use native.Mathlib.Omega.{arith}
 use borrow.Author.Needs.{needs}
 use Rattle.certificate.proofs.nearest.balanced.Statement.{statement}

@@ -4,8 +4,8 @@ use mathlib.Core.Bool.{cond}
 use Prim.Native.Nat.{_-_, _*_, _^_, _≤_}
 use Rattle.sets.specs.Sets.{has, holding}
 use Rattle.sets.proofs.Members.{and-mask}
-use Rattle.ranges.specs.Figures.{at}
-use Rattle.ranges.proofs.Steps.{shifted, sum-before, sum-before-none, sum-before-more, sum-before-end}
+use Rattle.certificate.specs.Figures.{at}
+use Rattle.certificate.proofs.Steps.{shifted, sum-before, sum-before-none, sum-before-more, sum-before-end}
 use borrow.Author.Needs.{needs}
 use native.Mathlib.Omega.{arith}
 use Rattle.certificate.proofs.sums.held.Statement.{statement}

@@ -1,8 +1,8 @@
 -- `sums::sets_weighed` meets its contract. The invariant: `added` is the sum over the sets passed. Assumes nothing.
 use mathlib.Core.Path.{_≡_, refl}
 use Prim.Native.Nat.{_-_, _*_, _^_, _≤_, _<_}
-use Rattle.ranges.specs.Figures.{at}
-use Rattle.ranges.proofs.Steps.{shifted, sum-before, sum-before-none, sum-before-more, sum-before-end}
+use Rattle.certificate.specs.Figures.{at}
+use Rattle.certificate.proofs.Steps.{shifted, sum-before, sum-before-none, sum-before-more, sum-before-end}
 use native.Mathlib.Nat.{mul-le-mul}
 use borrow.Author.Needs.{needs}
 use native.Mathlib.Omega.{arith}

@@ -5,7 +5,7 @@ use mathlib.Core.Path.{_≡_, sym, _∙_}
 use mathlib.Core.Bool.{true, and-eq-true-iff}
 use native.Mathlib.Omega.{arith}
 use lib.Dec.{leb}
-use Rattle.combinations.proofs.Refusals.{refusal-none}
+use Rattle.winners.proofs.Refusals.{refusal-none}
 use Rattle.winners.specs.Needs.{Listed}
 use Rattle.winners.specs.Surpluses.{list-good}
 use Rattle.winners.proofs.Tables.{shl-one, value-all, table-done}

@@ -1,6 +1,6 @@
 -- `winners::table::unlisted` meets its contract. Assumes nothing.
 use borrow.Author.Needs.{needs}
-use Rattle.combinations.proofs.Refusals.{refusal-none, refused-not-zero}
+use Rattle.winners.proofs.Refusals.{refusal-none, refused-not-zero}
 use Rattle.winners.proofs.table.unlisted.Statement.{statement}
 use Rattle.winners.proofs.table.unlisted.Tie as tie
 

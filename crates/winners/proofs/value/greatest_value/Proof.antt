@@ -4,8 +4,8 @@ use mathlib.Core.Path.{_≡_}
 use native.Mathlib.Omega.{arith}
 use Rattle.book.specs.Questions.{book-refusal}
 use Rattle.book.proofs.Soundness.{sound}
-use Rattle.combinations.proofs.Refusals.{refusal-none}
-use Rattle.winners.proofs.Values.{worth-refused, worth-past, worth-found}
+use Rattle.winners.proofs.Refusals.{refusal-none}
+use Rattle.winners.proofs.WorthAnswers.{worth-refused, worth-past, worth-found}
 use Rattle.winners.proofs.value.greatest_value.Statement.{statement}
 use Rattle.winners.proofs.value.greatest_value.Tie as tie
 

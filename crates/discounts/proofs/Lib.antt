@@ -1,2 +1,0 @@
--- The laws of the numbers that refuse a certificate's discounts.
-pub mod Refusals

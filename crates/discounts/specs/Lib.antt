@@ -1,3 +1,0 @@
--- The numbers that refuse a certificate's discounts, and what must be in range for them.
-pub mod Questions
-pub mod Ranges

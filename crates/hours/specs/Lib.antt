@@ -1,2 +1,0 @@
--- Four entries of a list, one for each kind.
-pub mod Four

@@ -1,0 +1,56 @@
+// The figures of a sheet.
+use crate::columns::number_at;
+use crate::columns::sets_column;
+use crate::columns::winners_column;
+use certificate::ranges::Figures;
+ghost use mathlib.Core.Path.{_≡_};
+ghost use Prim.Native.Nat.{_≤_};
+ghost use Rattle.certificate.specs.Figures.{certificate};
+ghost use Rattle.demands.specs.Sheet.{numbers-in};
+ghost use Rattle.judge.specs.Reading.{zero-figures};
+
+// All zero.
+pub(crate) fn no_figures() -> Figures
+    ensures { λ r. ⌜ r ≡ zero-figures ⌝ }
+{
+    Figures {
+        w: 0,
+        q: 0,
+        s: 0,
+        g: 0,
+        x: [0; 6],
+        z: [0; 6],
+        r: [0; 6],
+        t: [0; 6],
+        y: [0; 64],
+        u: [0; 64],
+    }
+}
+
+// The figures of a sheet with w winners.
+pub(crate) fn figures_of(part: &[u8], w: usize) -> Figures
+    requires { ⌜ w ≤ 6 ⌝ }
+    ensures { λ r. ⌜ certificate r ≡ numbers-in w (now (part .entry)) ⌝ }
+{
+    let q = number_at(part, 4 + w, false);
+    let s = number_at(part, 8 + w, false);
+    let x = winners_column(part, w, 0, true);
+    let z = winners_column(part, w, 8, false);
+    let r = winners_column(part, w, 12, true);
+    let t = winners_column(part, w, 20, true);
+    let g = number_at(part, 12 + 29 * w, true);
+    let y = sets_column(part, w, 0, false);
+    let u = sets_column(part, w, 4, true);
+    Figures {
+        w: w as u64,
+        q: q,
+        s: s,
+        g: g,
+        x: x,
+        z: z,
+        r: r,
+        t: t,
+        y: y,
+        u: u,
+    }
+}

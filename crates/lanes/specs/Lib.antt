@@ -1,2 +1,0 @@
--- Hours as one number.
-pub mod Lanes

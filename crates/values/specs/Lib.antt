@@ -1,2 +1,0 @@
-pub mod Needs
-pub mod Values

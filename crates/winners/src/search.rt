@@ -1,0 +1,68 @@
+// The greatest value by a search on the clients left, which fall by one at each call. It leaves out what cannot beat the floor, the
+// value that is already found: by the ceilings of the clients left. The hours of a bid and the hours used are numbers of crates/lanes.
+use crate::lanes;
+ghost use mathlib.Core.Path.{_≡_};
+ghost use mathlib.Core.Bool.{_&&_, cond};
+ghost use mathlib.Core.List.{List};
+ghost use Prim.Native.Nat.{ℕ, _*_, _-_, _≤_, max};
+ghost use lib.Bits.{bitAnd};
+ghost use lib.Dec.{eqb, ltb};
+ghost use Rattle.market.specs.Market.{Market};
+ghost use Rattle.market.specs.Greatest.{best};
+ghost use Rattle.winners.specs.Prepared.{Ready};
+ghost use Rattle.winners.specs.Searching.{Left, Looked, Turn, weight-in};
+
+// Whether the most that a choice can come to is more than what is found.
+fn beats(most: u64, top: u64) -> bool
+    ensures { λ r. ⌜ r ≡ ltb top most ⌝ }
+{
+    top < most
+}
+
+// A test as a number: 0 where it is met, and else 1.
+fn missed(met: bool) -> u64
+    ensures { λ r. ⌜ (r ≡ cond met 0 1) × (r ≤ 1) ⌝ }
+{
+    if met { 0 } else { 1 }
+}
+
+// Whether a bid can raise the best, by the most that it can come to, and fits: no guard is set in what would be used. One test does for both,
+// as neither alone can be foretold.
+fn may_raise(after: u64, top: u64, most: u64) -> bool
+    ensures { λ r. ⌜ r ≡ (ltb top most && eqb (bitAnd after 72058693566333184) 0) ⌝ }
+{
+    lanes::guards_set(after) + missed(beats(most, top)) == 0
+}
+
+// The larger of the floor and of the greatest value of the last clients (`ahead` of them) with the hours that are left, in whatever market the
+// array lays out. The ceilings are by the clients left, and where none is left it is 0.
+pub(crate) fn search_from(ahead: usize, used: u64, floor: u64, looks: &[u64; 166]) -> u64
+    requires { ⌜ Ready (now looks) ⌝ }
+    requires { ⌜ Turn ahead used floor (now looks) ⌝ }
+    ensures { λ r. ⌜ r ≤ max floor (ahead * 4294967295) ⌝ }
+    ensures { λ r. ⌜ ((m : Market) (k : ℕ) (hours : List ℕ) → Looked m k (now (looks .entry)) → Left k hours used → r ≡ max floor (best m (weight-in (now (looks .entry))) ahead (7 - ahead) hours)) ⌝ }
+{
+    let most = looks[152 + ahead];
+    if most <= floor {
+        return floor;
+    }
+    let fewer = ahead - 1;
+    let rest = looks[152 + fewer];
+    let mut top = floor;
+    let mut i: usize = 48;
+    if rest < most {
+        i = looks[144 + ahead] as usize;
+    }
+    while i < 48 {
+        let weight = looks[i];
+        let after = used + looks[48 + i];
+        let next = looks[96 + i] as usize;
+        if may_raise(after, top, weight + rest) {
+            let base = numbers::excess(top, weight);
+            let more = search_from(fewer, after, base, looks);
+            top = weight + more;
+        }
+        i = next;
+    }
+    search_from(fewer, used, top, looks)
+}
