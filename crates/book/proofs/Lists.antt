@@ -1,13 +1,13 @@
--- The step of a loop over a list: what the tests so far and those of the rest make together stays what the whole makes. Cited by the
--- proofs of src/rows.rt, whose loops go on to the end, and of the loops over bids in crates/bids and crates/amounts, which end with the
--- first no. Assumes nothing.
+-- The step of a loop over a list: what the tests so far and those of the rest make together stays what the whole makes. Cited by the proofs
+-- of src/tables.rt, whose loops go on to the end, and of src/asked.rt and src/paid.rt, whose loops end with the first no. Assumes nothing.
 use mathlib.Core.Path.{_≡_, refl, sym, _∙_}
 use mathlib.Core.Bool.{Bool, true, false, _&&_, and-assoc, and-true}
 use mathlib.Core.List.{List, [], _∷_}
 use Rattle.book.specs.Lists.{all}
 
 module _ {A : Type 0} (p : A → Bool) where
-  pub all-next : (x : A) (xs ys : List A) (ok t now z : Bool) → xs ≡ x ∷ ys → now ≡ (ok && t) → t ≡ p x → (ok && all p xs) ≡ z → (now && all p ys) ≡ z
+  pub all-next : (x : A) (xs ys : List A) (ok t now z : Bool) → xs ≡ x ∷ ys → now ≡ (ok && t) → t ≡ p x → (ok && all p xs) ≡ z
+      → (now && all p ys) ≡ z
   unfolding all
   all-next x xs ys ok t now z e n h q = rw (n, h, and-assoc) (rw e at q)
 

@@ -3,9 +3,7 @@ pub mod Lists
 pub mod Book
 pub mod Layout
 pub mod Questions
-pub mod Places
 pub mod Sound
-pub mod Counts
-pub mod KindReserves
-pub mod Rows
-pub mod Runs
+pub mod Value
+pub mod Reading
+pub mod Room

@@ -19,6 +19,11 @@ module _ {A : Type 0} where
   count p [] = 0
   count p (x ∷ xs) = cond (p x) 1 0 + count p xs
 
+  -- f i, f (i + 1), .., n of them
+  unfoldable pub row : (n i : ℕ) → (f : ℕ → A) → List A
+  row zero i f = []
+  row (suc n) i f = f i ∷ row n (i + 1) f
+
 -- p is true of each number from 1 to n
 unfoldable pub all-to : (n : ℕ) → (ℕ → Bool) → Bool
 all-to zero p = true

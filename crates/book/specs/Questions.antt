@@ -18,13 +18,16 @@ version-good bs = leb 3 (length bs) && eqb (byte 0 bs) 1
 unfoldable pub book-formula : (K n m : ℕ) → ℕ
 book-formula k n m = 6 + 3 * k + n + m * (k + 5)
 
+-- each count is in its range
+unfoldable pub counts-ranged : (K n m : ℕ) → Bool
+counts-ranged k n m = within 1 k 4 && (within 1 n 6 && leb m 48)
+
 -- 2. the bytes that the length counts are there; m, and so K and n before it, stands inside them; each count is in its range; and the
 -- length is the formula's
 unfoldable pub counts-good : List ℕ → Bool
 counts-good bs =
     (leb (book-long bs) (length bs) && ltb (5 + 3 * K-of bs + n-of bs) (book-long bs))
-    && ((within 1 (K-of bs) 4 && (within 1 (n-of bs) 6 && leb (m-of bs) 48))
-    && eqb (book-long bs) (book-formula (K-of bs) (n-of bs) (m-of bs)))
+    && (counts-ranged (K-of bs) (n-of bs) (m-of bs) && eqb (book-long bs) (book-formula (K-of bs) (n-of bs) (m-of bs)))
 
 -- 3. each supply, reserve and status
 unfoldable pub kind-good : Kind → Bool
@@ -56,11 +59,10 @@ reserves-met ks x = leb (reserves-of (x .hours) ks) (x .amount)
 unfoldable pub amounts-good : Book → Bool
 amounts-good b = all (reserves-met (b .kinds)) (b .bids)
 
+-- the number of the first of questions 3 to 5, which look at the book alone, that is answered no; 0 where none is
+unfoldable pub entries-refusal : Book → ℕ
+entries-refusal b = cond (not (tables-good b)) 3 (cond (not (bids-good b)) 4 (cond (not (amounts-good b)) 5 0))
+
 -- the number of the first question that is answered no; 0 where none is
 unfoldable pub book-refusal : List ℕ → ℕ
-book-refusal bs =
-    cond (not (version-good bs)) 1
-    (cond (not (counts-good bs)) 2
-    (cond (not (tables-good (book-in bs))) 3
-    (cond (not (bids-good (book-in bs))) 4
-    (cond (not (amounts-good (book-in bs))) 5 0))))
+book-refusal bs = cond (not (version-good bs)) 1 (cond (not (counts-good bs)) 2 (entries-refusal (book-in bs)))

@@ -54,7 +54,7 @@ fn two_in(bytes: &[u8], at: usize) -> u16
     a * 256 + b
 }
 
-fn four_in(bytes: &[u8], at: usize) -> u32
+pub(crate) fn four_in(bytes: &[u8], at: usize) -> u32
     requires { ⌜ at + 4 ≤ length (now bytes) ⌝ }
     ensures { λ r. ⌜ r ≡ field at 4 (now (bytes .entry)) ⌝ }
 {

@@ -1,48 +1,31 @@
-// The counts and the length that any bytes give, and where a book's bids stand (specs/Layout.antt).
+// The counts and the length that any bytes give a book (specs/Layout.antt).
 use crate::bytes;
 ghost use mathlib.Core.Path.{_≡_};
-ghost use Rattle.book.specs.Layout.{book-long, K-of, n-of, m-of, statuses-from, bids-from};
+ghost use Rattle.book.specs.Layout.{book-long, K-of, n-of, m-of};
 
-pub fn length(book: &[u8]) -> u16
+pub(crate) fn length(book: &[u8]) -> u16
     ensures { λ r. ⌜ r ≡ book-long (now (book .entry)) ⌝ }
 {
     bytes::u16_at(book, 1)
 }
 
-pub fn kinds(book: &[u8]) -> u8
+pub(crate) fn kinds(book: &[u8]) -> u8
     ensures { λ r. ⌜ r ≡ K-of (now (book .entry)) ⌝ }
 {
     bytes::byte_at(book, 3)
 }
 
-pub fn clients(book: &[u8]) -> u8
+pub(crate) fn clients(book: &[u8]) -> u8
     ensures { λ r. ⌜ r ≡ n-of (now (book .entry)) ⌝ }
 {
     let k = kinds(book) as usize;
     bytes::byte_at(book, 4 + 3 * k)
 }
 
-pub fn bids(book: &[u8]) -> u8
+pub(crate) fn bids(book: &[u8]) -> u8
     ensures { λ r. ⌜ r ≡ m-of (now (book .entry)) ⌝ }
 {
     let k = kinds(book) as usize;
     let n = clients(book) as usize;
     bytes::byte_at(book, 5 + 3 * k + n)
-}
-
-// Where the first status stands.
-pub fn statuses_place(book: &[u8]) -> u16
-    ensures { λ r. ⌜ r ≡ statuses-from (now (book .entry)) ⌝ }
-{
-    let k = kinds(book) as usize;
-    (5 + 3 * k) as u16
-}
-
-// Where the first bid stands.
-pub fn bids_place(book: &[u8]) -> u16
-    ensures { λ r. ⌜ r ≡ bids-from (now (book .entry)) ⌝ }
-{
-    let k = kinds(book) as usize;
-    let n = clients(book) as usize;
-    (6 + 3 * k + n) as u16
 }

@@ -1,20 +1,31 @@
-// Layer 1: reading books. A book stays bytes; nothing is copied out of it.
+// Layer 1: reading books. A book's bytes are read once, into a value; nobody above this layer reads a byte of a book.
 //
-// What a client may cite: `layout`, the counts and the length that the bytes give; `entries`, the fields of kinds, clients and bids by
-// their numbers; `reserve`, the reserves of hours at any place; `bytes`, big-endian numbers at any place; `flags`, tests as values. Every
-// public function takes any bytes, asks nothing of its caller, and its contract gives its result as a value in the definitions of specs/.
-// There stand also questions 1 to 5, which crates/tables, bids and amounts put to the bytes, and crates/questions in their order. The laws
-// of proofs/ that are `pub` say what soundness gives, and where the next bid stands.
-mod amounts;
-mod bid_limit;
-mod bids;
+// What a client may cite: `Book`, a book as a value, whose meaning `book-of` gives (specs/Value.antt); `read`, which puts questions 1 to 5
+// to bytes and hands out the book (specs/Reading.antt); `sound`, which puts questions 2 to 5 to any value; `client_of`, `hours_of`,
+// `amount_of` and `reserves_of`, what a value says of a bid by its number, `is_standing` of a client, and `supply_of` of the kinds;
+// `bytes`, big-endian numbers at any place of any bytes, for the sheet's reader. Each takes anything, asks nothing of its caller, and its
+// contract gives its result by value. The laws of proofs/ that are `pub` say what a sound book is (Soundness, SoundRead), what a value says
+// by number (Held), and what the questions say of the bytes (Refusals).
+mod asked;
 pub mod bytes;
-mod each_bid;
-pub mod entries;
-pub mod flags;
-mod kind_reserves;
-pub mod layout;
-pub mod questions;
-pub mod reserve;
-mod rows;
+mod counts;
+mod filling;
+mod layout;
+mod limit;
+mod lookups;
+mod paid;
+mod reading;
 mod tables;
+mod test_of_value;
+mod value;
+
+pub use lookups::amount_of;
+pub use lookups::client_of;
+pub use lookups::hours_of;
+pub use lookups::is_standing;
+pub use lookups::reserves_of;
+pub use lookups::supply_of;
+pub use reading::Reading;
+pub use reading::read;
+pub use test_of_value::sound;
+pub use value::Book;

@@ -1,46 +1,42 @@
-// Layer 1: questions 1 to 3 put to a book's bytes, each as the test of its definition (book/specs/Questions.antt).
-//
-// What a client may cite: the three functions, which take any bytes and ask nothing, with their contracts; and what good counts give whoever
-// reads bids inside the bytes (specs/Runs.antt), with its laws (proofs/Runs.antt) and the step of a loop over a list (proofs/Steps.antt).
-
-use crate::bytes;
-use crate::flags;
-use crate::layout;
-use crate::rows;
+// Question 3: of the supplies and reserves in a book's arrays, and of the statuses in its bytes, since a cap cannot hold a status of 2.
+// Both loops count what is left down.
 ghost use mathlib.Core.Path.{_≡_};
-ghost use Rattle.book.specs.Layout.{book-in};
-ghost use Rattle.book.specs.Questions.{version-good, counts-good, tables-good};
+ghost use Prim.Native.Nat.{_+_, _≤_};
+ghost use lib.ListN.{length};
+ghost use Rattle.book.specs.Bytes.{bytes-at};
+ghost use Rattle.book.specs.Lists.{all};
+ghost use Rattle.book.specs.Questions.{kind-good, status-good};
+ghost use Rattle.book.specs.Room.{kinds-held};
 
-// Question 1.
-pub fn is_version_good(book: &[u8]) -> bool
-    ensures { λ r. ⌜ r ≡ version-good (now (book .entry)) ⌝ }
+// Whether each of k kinds has a supply and a reserve in range.
+pub(crate) fn kinds_good(k: usize, supply: [u8; 4], reserve: [u16; 4]) -> bool
+    requires { ⌜ k ≤ 4 ⌝ }
+    ensures { λ r. ⌜ r ≡ all kind-good (kinds-held k supply reserve) ⌝ }
 {
-    let version = bytes::byte_at(book, 0);
-    flags::both(3 <= book.len(), version == 1)
+    let mut ok = true;
+    let mut i: usize = 0;
+    let mut left = k;
+    while 0 < left {
+        let good = numbers::both(supply[i] <= 200, reserve[i] <= 10000);
+        ok = numbers::both(ok, good);
+        i = i + 1;
+        left = left - 1;
+    }
+    ok
 }
 
-// Question 2.
-pub fn are_counts_good(book: &[u8]) -> bool
-    ensures { λ r. ⌜ r ≡ counts-good (now (book .entry)) ⌝ }
+// Whether each of n statuses from a place on is 0 or 1.
+pub(crate) fn statuses_good(input: &[u8], n: usize, at: usize) -> bool
+    requires { ⌜ at + n ≤ length (now input) ⌝ }
+    ensures { λ r. ⌜ r ≡ all status-good (bytes-at n at (now (input .entry))) ⌝ }
 {
-    let long = layout::length(book) as usize;
-    let k = layout::kinds(book) as usize;
-    let n = layout::clients(book) as usize;
-    let m = layout::bids(book) as usize;
-    let inside = flags::both(long <= book.len(), 5 + 3 * k + n < long);
-    let few = flags::both(flags::within(1, n, 6), m <= 48);
-    let ranged = flags::both(flags::within(1, k, 4), few);
-    let right = flags::both(ranged, long == 6 + 3 * k + n + m * (k + 5));
-    flags::both(inside, right)
-}
-
-// Question 3.
-pub fn are_tables_good(book: &[u8]) -> bool
-    ensures { λ r. ⌜ r ≡ tables-good (book-in (now (book .entry))) ⌝ }
-{
-    let k = layout::kinds(book) as usize;
-    let n = layout::clients(book) as usize;
-    let from = layout::statuses_place(book) as usize;
-    let kinds = rows::kinds_good(book, k);
-    flags::both(kinds, rows::statuses_good(book, n, from))
+    let mut ok = true;
+    let mut place = at;
+    let mut left = n;
+    while 0 < left {
+        ok = numbers::both(ok, input[place] <= 1);
+        place = place + 1;
+        left = left - 1;
+    }
+    ok
 }

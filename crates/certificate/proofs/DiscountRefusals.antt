@@ -1,5 +1,5 @@
--- What the numbers mean: 0 exactly where everything is in range and the questions hold, 7 exactly where something is out of range. Cited by
--- the laws of the numbers in crates/certificate, and by whoever rests on an answer. Assumes nothing.
+-- What the numbers of questions 10, 11 and 15 mean: 0 exactly where everything is in range and the questions hold, 7 exactly where
+-- something is out of range. Cited by the laws of the numbers of questions 11 to 15, and by whoever rests on an answer. Assumes nothing.
 use mathlib.Core.Path.{_≡_, refl}
 use mathlib.Core.Bool.{Bool, true, false, cond, _&&_, false≢true}
 use mathlib.Core.Logic.{_≢_, _↔_}
@@ -7,11 +7,11 @@ use Prim.Native.Nat.{ℕ, _*_, _≤_}
 use native.Mathlib.Omega.{arith}
 use Rattle.pricing.specs.Certificate.{Certificate, Within-reserve}
 use Rattle.pricing.specs.Questions.{Asks, test, within-reserve, within-sets, slack-sets, slack-reserve, slack-zero}
-use Rattle.pricing.proofs.Questions.{every-iff, test-iff}
+use Rattle.pricing.proofs.Questions.{every-iff, test-iff, leb-iff}
 use Rattle.pricing.specs.Ranges.{in-range}
 use Rattle.certificate.specs.Bounds.{tables-fit, reserve-in-range}
 use Rattle.certificate.specs.InRange.{Reserves}
-use Rattle.certificate.proofs.Tests.{leb-iff, and-iff}
+use Rattle.certificate.proofs.Tests.{and-iff}
 use Rattle.certificate.proofs.InRange.{in-range-iff, tables-fit-iff, reserve-in-range-iff}
 use Rattle.certificate.specs.DiscountRefusals.{reserve-kept, reserve-number, slack-test, bounded-number}
 use Rattle.certificate.specs.Readiness.{Ready}

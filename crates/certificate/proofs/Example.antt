@@ -1,5 +1,6 @@
 -- The definitions on an example, computed: two winners whose sets are bounded by 40 each and who can give up 50 and 40. One certificate
--- passes; others are refused by one question each. A winner alone has a G below zero. Cited by nothing. Assumes nothing.
+-- passes; others are refused by one question each. A winner alone has a G below zero. σ and ρ have their edges. Cited by nothing. Assumes
+-- nothing.
 use mathlib.Core.Path.{_≡_, refl}
 use mathlib.Core.List.{List, [], _∷_}
 use Prim.Native.Nat.{ℕ, _+_, _-_, _^_}
@@ -48,14 +49,16 @@ table = (refl, refl, refl, refl, refl, refl, refl, refl, refl, refl, refl)
 signs : (alone 10 (2 ^ 64 - 5) 5 10 ≡ 0)
     × (alone 10 5 5 10 ≡ 14)
     × (alone 10 (2 ^ 64 - 10 ^ 12 - 1) 5 10 ≡ 7)
+    × (alone 10 0 0 6000000 ≡ 13)
     × (alone 10 0 0 6000001 ≡ 7)
 unfolding signed winners-at-most sets-at-most G-in-range in-range tables-fit slack-test first-failed balances-number
     test every every-set same-signed slack sum sum-in over-sets holding single has
-signs = (refl, refl, refl, refl)
+signs = (refl, refl, refl, refl, refl)
 
 reserves : (reserve-number 2 1 (at (50 ∷ 40 ∷ [])) (at (50 ∷ 40 ∷ [])) ≡ 0)
     × (reserve-number 2 1 (at (50 ∷ 40 ∷ [])) (at (50 ∷ 41 ∷ [])) ≡ 10)
     × (reserve-number 7 1 (at []) (at []) ≡ 7)
+    × (reserve-number 2 1 (at (50 ∷ 1000000 ∷ [])) (at []) ≡ 0)
     × (reserve-number 2 1 (at (50 ∷ 1000001 ∷ [])) (at []) ≡ 7)
 unfolding reserve-number reserve-in-range reserve-kept winners-at-most every
-reserves = (refl, refl, refl, refl)
+reserves = (refl, refl, refl, refl, refl)

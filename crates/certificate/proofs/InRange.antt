@@ -3,16 +3,17 @@
 use mathlib.Core.Path.{_≡_, sym, ap, _∙_}
 use mathlib.Core.Bool.{Bool, true, false, _&&_}
 use mathlib.Core.Logic.{_↔_}
-use Prim.Native.Nat.{ℕ, _^_, _≤_}
+use Prim.Native.Nat.{ℕ, _≤_}
 use lib.Dec.{leb}
 use lib.IntN.{natAbs}
 use Rattle.pricing.specs.Certificate.{Certificate}
-use Rattle.pricing.proofs.Questions.{every-iff, every-set-iff}
+use Rattle.pricing.proofs.Questions.{every-iff, every-set-iff, leb-iff}
+use Rattle.pricing.specs.Ranges.{most-winners, most-scale, most-discount, most-multiplier}
 use Rattle.pricing.specs.Ranges.{winners-at-most, sets-at-most, scale-in-range, counts-in-range, winners-in-range}
 use Rattle.pricing.specs.Ranges.{sets-in-range, G-in-range, in-range}
-use Rattle.certificate.specs.Bounds.{tables-fit, reserve-in-range}
+use Rattle.certificate.specs.Bounds.{most-rho, most-sigma, tables-fit, reserve-in-range}
 use Rattle.certificate.specs.InRange.{Winners-under, Sets-under, Ranges, Tables, Reserves}
-use Rattle.certificate.proofs.Tests.{leb-iff, and-iff}
+use Rattle.certificate.proofs.Tests.{and-iff}
 
 -- PARTS
 winners-iff : (w b : ℕ) (f : ℕ → ℕ) → (winners-at-most w b f ≡ true) ↔ Winners-under w b f
@@ -23,30 +24,33 @@ sets-iff : (w b : ℕ) (f : ℕ → ℕ) → (sets-at-most w b f ≡ true) ↔ S
 unfolding sets-at-most
 sets-iff w b f = every-set-iff w _ _ (λ L. leb-iff (f L) b)
 
-scale-iff : (n : ℕ) → (scale-in-range n ≡ true) ↔ ((1 ≤ n) × (n ≤ 10000))
-scale-iff n = and-iff (leb 1 n) (leb n 10000) (leb-iff 1 n) (leb-iff n 10000)
+scale-iff : (n : ℕ) → (scale-in-range n ≡ true) ↔ ((1 ≤ n) × (n ≤ most-scale))
+scale-iff n = and-iff _ _ (leb-iff 1 n) (leb-iff n most-scale)
 
 abbrev Counts : (w q s : ℕ) → Type 0
-Counts w q s = ((w ≤ 6) × ((1 ≤ q) × (q ≤ 10000))) × ((1 ≤ s) × (s ≤ 10000))
+Counts w q s = ((w ≤ most-winners) × ((1 ≤ q) × (q ≤ most-scale))) × ((1 ≤ s) × (s ≤ most-scale))
 
 counts-iff : (w q s : ℕ) → (counts-in-range w q s ≡ true) ↔ Counts w q s
 counts-iff w q s =
-    and-iff (leb w 6 && scale-in-range q) (scale-in-range s)
-    (and-iff (leb w 6) (scale-in-range q) (leb-iff w 6) (scale-iff q)) (scale-iff s)
+    and-iff _ _ (and-iff _ _ (leb-iff w most-winners) (scale-iff q)) (scale-iff s)
 
 abbrev By-winner : (w : ℕ) → (X Z R T : ℕ → ℕ) → Type 0
 By-winner w X Z R T =
-    ((Winners-under w (10 ^ 10) X × Winners-under w 10000 Z) × Winners-under w (10 ^ 12) R) × Winners-under w (10 ^ 12) T
+    ((Winners-under w most-discount X × Winners-under w most-scale Z) × Winners-under w most-multiplier R)
+    × Winners-under w most-multiplier T
 
 by-winner-iff : (w : ℕ) (X Z R T : ℕ → ℕ) → (winners-in-range w X Z R T ≡ true) ↔ By-winner w X Z R T
 by-winner-iff w X Z R T =
-    and-iff (winners-at-most w (10 ^ 10) X && winners-at-most w 10000 Z && winners-at-most w (10 ^ 12) R) (winners-at-most w (10 ^ 12) T)
-    (and-iff (winners-at-most w (10 ^ 10) X && winners-at-most w 10000 Z) (winners-at-most w (10 ^ 12) R)
-    (and-iff (winners-at-most w (10 ^ 10) X) (winners-at-most w 10000 Z) (winners-iff w (10 ^ 10) X) (winners-iff w 10000 Z))
-    (winners-iff w (10 ^ 12) R)) (winners-iff w (10 ^ 12) T)
+    and-iff _ _
+    (and-iff _ _
+    (and-iff _ _ (winners-iff w most-discount X) (winners-iff w most-scale Z))
+    (winners-iff w most-multiplier R)) (winners-iff w most-multiplier T)
 
-by-set-iff : (w : ℕ) (Y U : ℕ → ℕ) → (sets-in-range w Y U ≡ true) ↔ (Sets-under w 10000 Y × Sets-under w (10 ^ 12) U)
-by-set-iff w Y U = and-iff (sets-at-most w 10000 Y) (sets-at-most w (10 ^ 12) U) (sets-iff w 10000 Y) (sets-iff w (10 ^ 12) U)
+abbrev By-set : (w : ℕ) → (Y U : ℕ → ℕ) → Type 0
+By-set w Y U = Sets-under w most-scale Y × Sets-under w most-multiplier U
+
+by-set-iff : (w : ℕ) (Y U : ℕ → ℕ) → (sets-in-range w Y U ≡ true) ↔ By-set w Y U
+by-set-iff w Y U = and-iff _ _ (sets-iff w most-scale Y) (sets-iff w most-multiplier U)
 
 -- QUESTION 7
 module _ (c : Certificate) where
@@ -62,16 +66,16 @@ module _ (c : Certificate) where
   abbrev Parts : Type 0
   Parts =
       ((Counts (c .w) (c .q) (c .s) × By-winner (c .w) (c .X) (c .Z) (c .R) (c .T))
-      × (Sets-under (c .w) 10000 (c .Y) × Sets-under (c .w) (10 ^ 12) (c .U)))
-      × (natAbs (c .G) ≤ 10 ^ 12)
+      × By-set (c .w) (c .Y) (c .U))
+      × (natAbs (c .G) ≤ most-multiplier)
 
   parts-iff : (in-range c ≡ true) ↔ Parts
   unfolding in-range G-in-range counts winners sets
   parts-iff =
-      and-iff (counts && winners && sets) (leb (natAbs (c .G)) (10 ^ 12))
+      and-iff (counts && winners && sets) (leb (natAbs (c .G)) most-multiplier)
       (and-iff (counts && winners) sets
       (and-iff counts winners (counts-iff (c .w) (c .q) (c .s)) (by-winner-iff (c .w) (c .X) (c .Z) (c .R) (c .T)))
-      (by-set-iff (c .w) (c .Y) (c .U))) (leb-iff (natAbs (c .G)) (10 ^ 12))
+      (by-set-iff (c .w) (c .Y) (c .U))) (leb-iff (natAbs (c .G)) most-multiplier)
 
   facts : Parts → Ranges c
   facts p =
@@ -112,7 +116,7 @@ module _ (c : Certificate) where
   unfolding in-range winners sets
   in-range-rest e f = f ∙ ap (λ (b : Bool). b && winners && sets && G-in-range (c .G)) (sym e)
 
-pub counts-few : (w q s : ℕ) → counts-in-range w q s ≡ true → w ≤ 6
+pub counts-few : (w q s : ℕ) → counts-in-range w q s ≡ true → w ≤ most-winners
 counts-few w q s e = counts-iff w q s .0 e .0 .0
 
 -- TABLES, AND WHAT QUESTION 10 READS
@@ -121,10 +125,8 @@ unfolding tables-fit
 tables-fit-iff w σ ρ =
     (λ e. let p = t .0 e in record { few = p .0 .0; σ-most = p .0 .1; ρ-most = p .1 }, λ r. t .1 ((r .few, r .σ-most), r .ρ-most))
   where
-    t : (tables-fit w σ ρ ≡ true) ↔ (((w ≤ 6) × Sets-under w 6000000 σ) × Winners-under w 1000000 ρ)
-    t =
-        and-iff (leb w 6 && sets-at-most w 6000000 σ) (winners-at-most w 1000000 ρ)
-        (and-iff (leb w 6) (sets-at-most w 6000000 σ) (leb-iff w 6) (sets-iff w 6000000 σ)) (winners-iff w 1000000 ρ)
+    t : (tables-fit w σ ρ ≡ true) ↔ (((w ≤ most-winners) × Sets-under w most-sigma σ) × Winners-under w most-rho ρ)
+    t = and-iff _ _ (and-iff _ _ (leb-iff w most-winners) (sets-iff w most-sigma σ)) (winners-iff w most-rho ρ)
 
 pub reserve-in-range-iff : (w q : ℕ) (ρ : ℕ → ℕ) → (reserve-in-range w q ρ ≡ true) ↔ Reserves w q ρ
 unfolding reserve-in-range
@@ -133,7 +135,5 @@ reserve-in-range-iff w q ρ = (
   λ r. t .1 ((r .few, (r .q-least, r .q-most)), r .ρ-most),
 )
   where
-    t : (reserve-in-range w q ρ ≡ true) ↔ (((w ≤ 6) × ((1 ≤ q) × (q ≤ 10000))) × Winners-under w 1000000 ρ)
-    t =
-        and-iff (leb w 6 && scale-in-range q) (winners-at-most w 1000000 ρ)
-        (and-iff (leb w 6) (scale-in-range q) (leb-iff w 6) (scale-iff q)) (winners-iff w 1000000 ρ)
+    t : (reserve-in-range w q ρ ≡ true) ↔ (((w ≤ most-winners) × ((1 ≤ q) × (q ≤ most-scale))) × Winners-under w most-rho ρ)
+    t = and-iff _ _ (and-iff _ _ (leb-iff w most-winners) (scale-iff q)) (winners-iff w most-rho ρ)

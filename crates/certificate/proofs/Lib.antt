@@ -1,4 +1,4 @@
--- The laws of question 14 in numbers without a sign, and of the numbers that refuse a certificate.
+-- The laws of ranges, of question 14 in numbers without a sign, and of the numbers that refuse a certificate.
 pub mod Balance
 pub mod Refusals
 pub mod Example

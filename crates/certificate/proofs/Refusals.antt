@@ -1,5 +1,6 @@
--- What the numbers mean: 0 exactly where everything is in range and the questions hold, 7 exactly where something is out of range. So a
--- certificate in range is passed by both operations exactly where it is certified. Cited by whoever rests on an answer. Assumes nothing.
+-- What the numbers of questions 7 and 11 to 15 mean: 0 exactly where everything is in range and the questions hold, 7 exactly where
+-- something is out of range. So `reserve` and `balances` both pass a certificate in range exactly where it is certified. Cited by whoever
+-- rests on an answer. Assumes nothing.
 use mathlib.Core.Path.{_≡_, ap}
 use mathlib.Core.Bool.{Bool, cond, _&&_}
 use mathlib.Core.Logic.{_≢_, _↔_}
@@ -72,7 +73,8 @@ module _ (c : Certificate) (σ ρ : ℕ → ℕ) where
 
   pub balances-number-zero : (balances-number c σ ρ ≡ 0) ↔ (Ready c σ ρ × (Within-sets (c .w) (c .q) σ (c .X) × Balances c σ ρ))
   unfolding balances-number
-  balances-number-zero = passed-iff (in-range c && tables-fit (c .w) σ ρ) (first-failed c σ ρ) 7 (omega arith) (ready-iff c σ ρ) first-failed-zero
+  balances-number-zero =
+      passed-iff (in-range c && tables-fit (c .w) σ ρ) (first-failed c σ ρ) 7 (omega arith) (ready-iff c σ ρ) first-failed-zero
 
   pub balances-number-ready : Ready c σ ρ → (balances-number c σ ρ ≡ 0) ↔ (Within-sets (c .w) (c .q) σ (c .X) × Balances c σ ρ)
   balances-number-ready = given balances-number-zero

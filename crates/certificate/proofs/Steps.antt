@@ -1,26 +1,14 @@
 -- The steps of loops that test or add up one number after another, over an index from 0 or over the sets from 1. Cited by the proofs of
--- the functions with a loop, here, in crates/discounts and in crates/certificate, and by crates/sheet. Assumes nothing.
+-- the functions with a loop. Assumes nothing.
 use mathlib.Core.Path.{_≡_, refl, sym, ap, _∙_}
 use mathlib.Core.Bool.{Bool, true, _&&_}
-use Prim.Native.Nat.{ℕ, suc, _+_, _*_, _-_, _%_, _^_, _≤_}
-use native.Mathlib.Nat.{mod-eq-of-lt, one-mul, le-antisymm}
+use Prim.Native.Nat.{ℕ, suc, _+_, _-_, _^_, _≤_}
+use native.Mathlib.Nat.{le-antisymm}
 use native.Mathlib.Numerals.{add-one}
 use native.Mathlib.Omega.{arith}
-use lib.Pow.{pow-pos, pow-mono}
 use Rattle.sets.specs.Sums.{sum}
 use Rattle.sets.specs.Sets.{over-sets}
 use Rattle.pricing.specs.Questions.{every, every-set}
-
--- THE END OF THE SETS
-pub power-most : (k : ℕ) → k ≤ 6 → 2 ^ k ≤ 64
-power-most k l = pow-mono l
-
--- what `1 << k` computes
-pub power-shift : (k : ℕ) → k ≤ 6 → 1 * 2 ^ k % 2 ^ 64 ≡ 2 ^ k
-power-shift k l = ap (λ (n : ℕ). n % 2 ^ 64) (one-mul (2 ^ k)) ∙ mod-eq-of-lt (omega (arith, power-most k l))
-
-pub shifted : (k : ℕ) → k ≤ 6 → (1 * 2 ^ k % 2 ^ 64 ≡ 2 ^ k) × (1 ≤ 1 * 2 ^ k % 2 ^ 64) × (1 * 2 ^ k % 2 ^ 64 ≤ 64)
-shifted k l = rw (power-shift k l) (refl, pow-pos k, power-most k l)
 
 -- ONE NUMBER AFTER ANOTHER
 pub every-more : (p : ℕ → Bool) (n : ℕ) {r b t : Bool} → r ≡ (b && t) → b ≡ every n p → t ≡ p n → r ≡ every (n + 1) p

@@ -1,19 +1,11 @@
--- Tests joined by `and`, and tests that decide the same. Cited by the laws of ranges, by the proofs of the
--- functions that join tests, and by crates/discounts and crates/certificate. Assumes nothing.
+-- Tests joined by `and`, and tests that decide the same. Cited by the laws of ranges and of the numbers, and by the proofs of the functions
+-- that join tests. Assumes nothing.
 use mathlib.Core.Path.{_≡_, refl, sym, ap, _∙_}
 use mathlib.Core.Bool.{Bool, true, false, cond, _&&_, false≢true}
 use mathlib.Core.Logic.{_↔_}
-use Prim.Native.Nat.{ℕ, _≤_}
-use lib.Dec.{leb, eqb}
-use borrow.Author.Tests.{leb-true, le-leb, eqb-true, eq-eqb}
+use Prim.Native.Nat.{ℕ}
 
--- A TEST AND ITS FACT
-pub leb-iff : (a b : ℕ) → (leb a b ≡ true) ↔ (a ≤ b)
-leb-iff a b = (leb-true a b, le-leb a b)
-
-pub eqb-iff : (a b : ℕ) → (eqb a b ≡ true) ↔ (a ≡ b)
-eqb-iff a b = (eqb-true a b, eq-eqb a b)
-
+-- TESTS AND THEIR FACTS
 pub and-iff : (a b : Bool) {P Q : Type 0} → (a ≡ true) ↔ P → (b ≡ true) ↔ Q → ((a && b) ≡ true) ↔ (P × Q)
 and-iff true b p q = (λ e. (p .0 refl, q .0 e), λ h. q .1 (h .1))
 and-iff false b p q = (λ e. absurd (false≢true e), λ h. p .1 (h .0))

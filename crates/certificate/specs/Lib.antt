@@ -1,6 +1,5 @@
--- The numbers that refuse a certificate, and what must be in range for them.
+-- What figures stand for, the numbers that refuse a certificate, and what must be in range for them.
 pub mod Refusals
-pub mod Addends
 pub mod Bounds
 pub mod DiscountRefusals
 pub mod Figures

@@ -6,10 +6,11 @@ ghost use Rattle.sets.specs.Sets.{sum-in};
 ghost use Rattle.pricing.specs.Questions.{test, within-sets, slack-sets};
 ghost use Rattle.certificate.specs.Figures.{at, certificate};
 ghost use Rattle.certificate.specs.Readiness.{Winners-add, Sets-ready};
-use crate::logic::answer;
-use crate::logic::both;
+use crate::chain::answer;
 use crate::ranges::Figures;
 use crate::slack::slack_at;
+use numbers::both;
+use numbers::sets_end;
 use numbers::share;
 
 // The sum over the members of a set: bit k of its number stands for winner k.
@@ -35,7 +36,7 @@ pub(crate) fn sets_number(f: Figures, sigma: [u64; 64], winners: bool) -> u8
     let w = f.w as usize;
     let x = f.x;
     let u = f.u;
-    let end: usize = 1 << w;
+    let end = sets_end(w);
     let mut within = true;
     let mut tight = true;
     let mut set = 1;

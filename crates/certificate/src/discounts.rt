@@ -1,15 +1,13 @@
-// The discounts of an auction certificate against their bounds, over arrays by value: question 10 alone, and questions 11 and 15, which
-// each look at one bound after another.
-// A client may cite the contracts of `reserve` and `bounded`, which ask nothing, and the laws of the numbers that they answer, in
-// proofs/Refusals.
+// The discounts of an auction certificate against their bounds: question 10 alone, and questions 11 and 15, which each look at one bound
+// after another.
 ghost use mathlib.Core.Path.{_≡_};
 ghost use Rattle.certificate.specs.Figures.{at, certificate};
 ghost use Rattle.certificate.specs.DiscountRefusals.{reserve-number, bounded-number};
 use crate::by_set::sets_number;
+use crate::chain::answer;
 use crate::limits::in_range;
 use crate::limits::reserve_in_range;
 use crate::limits::tables_fit;
-use crate::logic::answer;
 use crate::ranges::Figures;
 use crate::slack::winners_slack;
 use crate::within::reserve_kept;

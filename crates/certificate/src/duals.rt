@@ -5,10 +5,10 @@ ghost use Rattle.pricing.specs.Questions.{test, cover, totals};
 ghost use Rattle.certificate.specs.Figures.{at, certificate};
 ghost use Rattle.certificate.specs.InRange.{Ranges};
 ghost use Rattle.certificate.specs.Readiness.{Ready};
-use crate::logic::both;
 use crate::ranges::Figures;
 use crate::sums::held;
 use crate::sums::sets_weighed;
+use numbers::both;
 
 // Question 12.
 pub(crate) fn all_covered(f: Figures) -> bool

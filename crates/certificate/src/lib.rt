@@ -1,15 +1,19 @@
-// The checks of an auction certificate over arrays by value: questions 11 to 15. Question 7 on its ranges is put by crates/ranges, which
-// has the figures' type too; questions 10, 11 and 15, which look at one bound after another, by crates/discounts.
-// A client may cite the contract of `balances`, which asks nothing, and the laws of the numbers that it answers, in proofs/Refusals.
+// The checks of an auction certificate over arrays by value, for any bounds σ of sets and ρ of winners; no book is known here.
+// `ranges::ranges` puts question 7, `discounts::reserve` question 10, `discounts::bounded` questions 11 and 15, `balances` 11 to 15.
+// They ask nothing of their caller. Each answers 0, or the number of its first question whose answer is no.
+// EACH ANSWERS 7 where something that it reads is out of range: a figure of the certificate, but also a σ above 6,000,000 or a ρ above
+// 1,000,000, which no book gives. A caller with bounds of another kind must look for that 7.
+// A client may cite their contracts, the laws of the numbers in proofs/Refusals and proofs/DiscountRefusals, and the laws of ranges in
+// proofs/InRange.
 ghost use mathlib.Core.Path.{_≡_};
 ghost use Rattle.certificate.specs.Figures.{at, certificate};
 ghost use Rattle.certificate.specs.Refusals.{balances-number};
 
 mod by_set;
+mod chain;
 pub mod discounts;
 mod duals;
 mod limits;
-mod logic;
 mod most;
 mod nearest;
 pub mod ranges;
@@ -18,8 +22,8 @@ mod slack;
 mod sums;
 mod within;
 
+use crate::chain::answer;
 use crate::discounts::bounded;
-use crate::logic::answer;
 use crate::ranges::Figures;
 use duals::all_covered;
 use duals::totals_meet;

@@ -1,54 +1,74 @@
 // Question 7: whether a certificate's figures, and the tables that it is judged by, are in range.
 ghost use mathlib.Core.Path.{_≡_};
 ghost use Prim.Native.Nat.{_≤_};
+ghost use Rattle.pricing.specs.Ranges.{most-winners, scale-in-range, counts-in-range, winners-in-range, sets-in-range, in-range};
 ghost use Rattle.certificate.specs.Figures.{at, certificate};
-ghost use Rattle.pricing.specs.Ranges.{scale-in-range, counts-in-range, winners-in-range, sets-in-range};
-ghost use Rattle.pricing.specs.Ranges.{in-range};
 ghost use Rattle.certificate.specs.Bounds.{tables-fit, reserve-in-range};
-use crate::Figures;
-use crate::logic::both;
 use crate::most::sets_at_most;
 use crate::most::winners_at_most;
+use crate::ranges::Figures;
 use crate::signs::g_in_range;
+use numbers::both;
 
-// Whether a denominator is from 1 to 10,000.
+// Winners.
+const MOST_WINNERS: u64 = 6;
+
+// The denominators q and s, and the multipliers y and z.
+const MOST_SCALE: u64 = 10_000;
+
+// A discount.
+const MOST_DISCOUNT: u64 = 10_000_000_000;
+
+// The multipliers u, r, t and g, g without its sign.
+pub(crate) const MOST_MULTIPLIER: u64 = 1_000_000_000_000;
+
+// ρ, which is no more than one amount of a book.
+const MOST_RHO: u64 = 1_000_000;
+
+// σ, which is no more than six amounts.
+const MOST_SIGMA: u64 = 6_000_000;
+
+// Whether a denominator is from 1 to its bound.
 fn scale_in_range(n: u64) -> bool
     ensures { λ r. ⌜ r ≡ scale-in-range n ⌝ }
 {
-    both(1 <= n, n <= 10_000)
+    both(1 <= n, n <= MOST_SCALE)
 }
 
 // The winners' count and both denominators.
 fn counts_in_range(w: u64, q: u64, s: u64) -> bool
     ensures { λ r. ⌜ r ≡ counts-in-range w q s ⌝ }
 {
-    both(both(w <= 6, scale_in_range(q)), scale_in_range(s))
+    both(
+        both(w <= MOST_WINNERS, scale_in_range(q)),
+        scale_in_range(s),
+    )
 }
 
 // The winners' numbers.
 fn winners_in_range(w: usize, x: [u64; 6], z: [u64; 6], r: [u64; 6], t: [u64; 6]) -> bool
-    requires { ⌜ w ≤ 6 ⌝ }
+    requires { ⌜ w ≤ most-winners ⌝ }
     ensures { λ ok. ⌜ ok ≡ winners-in-range w (at x) (at z) (at r) (at t) ⌝ }
 {
-    let discounts = winners_at_most(w, 10_000_000_000, x);
-    let covers = winners_at_most(w, 10_000, z);
-    let reserves = winners_at_most(w, 1_000_000_000_000, r);
-    let zeros = winners_at_most(w, 1_000_000_000_000, t);
+    let discounts = winners_at_most(w, MOST_DISCOUNT, x);
+    let covers = winners_at_most(w, MOST_SCALE, z);
+    let reserves = winners_at_most(w, MOST_MULTIPLIER, r);
+    let zeros = winners_at_most(w, MOST_MULTIPLIER, t);
     both(both(both(discounts, covers), reserves), zeros)
 }
 
 // The sets' numbers.
 fn sets_in_range(w: usize, y: [u64; 64], u: [u64; 64]) -> bool
-    requires { ⌜ w ≤ 6 ⌝ }
+    requires { ⌜ w ≤ most-winners ⌝ }
     ensures { λ r. ⌜ r ≡ sets-in-range w (at y) (at u) ⌝ }
 {
-    let covers = sets_at_most(w, 10_000, y);
-    let bounds = sets_at_most(w, 1_000_000_000_000, u);
+    let covers = sets_at_most(w, MOST_SCALE, y);
+    let bounds = sets_at_most(w, MOST_MULTIPLIER, u);
     both(covers, bounds)
 }
 
 // All figures.
-pub fn in_range(f: Figures) -> bool
+pub(crate) fn in_range(f: Figures) -> bool
     ensures { λ r. ⌜ r ≡ in-range (certificate f) ⌝ }
 {
     if !counts_in_range(f.w, f.q, f.s) {
@@ -67,27 +87,27 @@ pub fn in_range(f: Figures) -> bool
 }
 
 // The tables of sets and winners.
-pub fn tables_fit(w: u64, sigma: [u64; 64], rho: [u64; 6]) -> bool
+pub(crate) fn tables_fit(w: u64, sigma: [u64; 64], rho: [u64; 6]) -> bool
     ensures { λ r. ⌜ r ≡ tables-fit w (at sigma) (at rho) ⌝ }
 {
-    if w > 6 {
+    if w > MOST_WINNERS {
         return false;
     }
     let n = w as usize;
-    let sets = sets_at_most(n, 6_000_000, sigma);
-    let winners = winners_at_most(n, 1_000_000, rho);
+    let sets = sets_at_most(n, MOST_SIGMA, sigma);
+    let winners = winners_at_most(n, MOST_RHO, rho);
     both(sets, winners)
 }
 
 // What question 10 reads.
-pub fn reserve_in_range(w: u64, q: u64, rho: [u64; 6]) -> bool
+pub(crate) fn reserve_in_range(w: u64, q: u64, rho: [u64; 6]) -> bool
     ensures { λ r. ⌜ r ≡ reserve-in-range w q (at rho) ⌝ }
 {
-    if w > 6 {
+    if w > MOST_WINNERS {
         return false;
     }
     both(
         scale_in_range(q),
-        winners_at_most(w as usize, 1_000_000, rho),
+        winners_at_most(w as usize, MOST_RHO, rho),
     )
 }

@@ -1,21 +1,14 @@
 // Whether numbers by winner, or by set, are at most a bound.
 ghost use mathlib.Core.Path.{_≡_};
-ghost use Prim.Native.Nat.{_^_, _≤_};
+ghost use Prim.Native.Nat.{_≤_};
 ghost use Rattle.certificate.specs.Figures.{at};
-ghost use Rattle.pricing.specs.Ranges.{winners-at-most, sets-at-most};
-use crate::logic::both;
-
-// 2^w: the end of the sets of w winners.
-fn sets_end(w: usize) -> usize
-    requires { ⌜ w ≤ 6 ⌝ }
-    ensures { λ r. ⌜ (r ≡ 2 ^ w) × (1 ≤ r) × (r ≤ 64) ⌝ }
-{
-    1 << w
-}
+ghost use Rattle.pricing.specs.Ranges.{most-winners, winners-at-most, sets-at-most};
+use numbers::both;
+use numbers::sets_end;
 
 // Whether each winner's number is at most `most`.
 pub(crate) fn winners_at_most(w: usize, most: u64, xs: [u64; 6]) -> bool
-    requires { ⌜ w ≤ 6 ⌝ }
+    requires { ⌜ w ≤ most-winners ⌝ }
     ensures { λ r. ⌜ r ≡ winners-at-most w most (at xs) ⌝ }
 {
     let mut ok = true;
@@ -29,7 +22,7 @@ pub(crate) fn winners_at_most(w: usize, most: u64, xs: [u64; 6]) -> bool
 
 // Whether each non-empty set's number is at most `most`.
 pub(crate) fn sets_at_most(w: usize, most: u64, xs: [u64; 64]) -> bool
-    requires { ⌜ w ≤ 6 ⌝ }
+    requires { ⌜ w ≤ most-winners ⌝ }
     ensures { λ r. ⌜ r ≡ sets-at-most w most (at xs) ⌝ }
 {
     let end = sets_end(w);

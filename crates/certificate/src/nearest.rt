@@ -4,13 +4,12 @@ ghost use Prim.Native.Nat.{ℕ, _+_, _*_};
 ghost use lib.Dec.{eqb};
 ghost use Rattle.pricing.specs.Questions.{test, stationary};
 ghost use Rattle.certificate.specs.Figures.{at, above, below, certificate};
-ghost use Rattle.certificate.specs.Readiness.{Sets-ready};
-ghost use Rattle.certificate.specs.Addends.{Balance-fits};
-use crate::logic::both;
+ghost use Rattle.certificate.specs.Readiness.{Sets-ready, Balance-fits};
 use crate::ranges::Figures;
 use crate::signs::part_above;
 use crate::signs::part_below;
 use crate::sums::held;
+use numbers::both;
 
 // Whether q × σ - x is G + u + r - t, with what is taken away put on the other side.
 fn balanced(q: u64, sigma: u64, x: u64, g: u64, u: u64, r: u64, t: u64) -> bool

@@ -1,12 +1,10 @@
-// An auction certificate in arrays by value, and question 7: whether its figures, and the bounds that it is judged by, are in range.
-// A client may cite the contracts of `ranges` and of what `limits`, `signs` and `logic` make public, which ask nothing, and the laws of
-// ranges in proofs/InRange.
+// An auction certificate in arrays by value, and question 7: whether its figures are in range.
 ghost use mathlib.Core.Path.{_≡_};
 ghost use mathlib.Core.Bool.{cond};
 ghost use Rattle.pricing.specs.Ranges.{in-range};
 ghost use Rattle.certificate.specs.Figures.{certificate};
+use crate::chain::answer;
 use crate::limits::in_range;
-use crate::logic::answer;
 
 // A certificate: w winners, the denominators q and s, the 64 bits of G in two's complement, then x, z, r and t by winner, y and u by
 // the set's number. Entries from w up, set 0 and sets from 2^w up are not looked at.

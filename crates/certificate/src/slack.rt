@@ -5,8 +5,8 @@ ghost use Prim.Native.Nat.{ℕ};
 ghost use Rattle.pricing.specs.Questions.{test, slack, slack-reserve, slack-zero};
 ghost use Rattle.certificate.specs.Figures.{at, certificate};
 ghost use Rattle.certificate.specs.Readiness.{Winners-ready};
-use crate::logic::both;
 use crate::ranges::Figures;
+use numbers::both;
 
 // Whether a multiplier is zero or its bound is met.
 pub(crate) fn slack_at(multiplier: u64, a: u64, b: u64) -> bool
@@ -18,7 +18,8 @@ pub(crate) fn slack_at(multiplier: u64, a: u64, b: u64) -> bool
 // Question 15 on R and T: the discount is q × ρ where R stands, and 0 where T does.
 pub(crate) fn winners_slack(f: Figures, rho: [u64; 6]) -> bool
     requires { ⌜ Winners-ready (certificate f) (at rho) ⌝ }
-    ensures { λ ok. ⌜ ((σ : ℕ → ℕ) → ok ≡ (test slack-reserve (certificate f) σ (at rho) && test slack-zero (certificate f) σ (at rho))) ⌝ }
+    ensures { λ ok. ⌜ ((σ : ℕ → ℕ) → ok
+        ≡ (test slack-reserve (certificate f) σ (at rho) && test slack-zero (certificate f) σ (at rho))) ⌝ }
 {
     let w = f.w as usize;
     let x = f.x;

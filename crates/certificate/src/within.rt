@@ -3,7 +3,7 @@ ghost use mathlib.Core.Path.{_≡_};
 ghost use Rattle.certificate.specs.Figures.{at};
 ghost use Rattle.certificate.specs.InRange.{Reserves};
 ghost use Rattle.certificate.specs.DiscountRefusals.{reserve-kept};
-use crate::logic::both;
+use numbers::both;
 
 // Question 10.
 pub(crate) fn reserve_kept(w: usize, q: u64, x: [u64; 6], rho: [u64; 6]) -> bool

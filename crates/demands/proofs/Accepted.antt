@@ -1,5 +1,5 @@
 -- What is known of a sheet in its ranges: q and s are positive, and it passes the questions just where it is acceptable, since the bounds
--- of questions 10 and 11 are those of admissible discounts. Cited by the demands and by what else is said of accepted inputs.
+-- of questions 10 and 11 are those of admissible discounts. Cited by the demands and by what else is said of accepted calls.
 -- Assumes nothing.
 use mathlib.Core.Path.{_≡_, sym, subst}
 use mathlib.Core.Bool.{true, _&&_, and-eq-true-iff}
@@ -12,8 +12,9 @@ use Rattle.pricing.specs.Certificate.{Certificate}
 use Rattle.pricing.specs.Fractions.{Fraction, over}
 use Rattle.pricing.specs.Discounts.{Proper, Reserve-kept, Sets-kept, own}
 use Rattle.pricing.proofs.Best.{own-reserve, own-sets}
-use Rattle.book.specs.Layout.{book-in}
-use Rattle.winners.specs.Combinations.{Rising, worth}
+use Rattle.book.specs.Book.{Book}
+use Rattle.book.specs.Sound.{Shaped}
+use Rattle.winners.specs.Combinations.{Rising, worth, Combinations-agree}
 use Rattle.winners.specs.Greatest.{greatest}
 use Rattle.winners.proofs.Books.{combinations-agree}
 use Rattle.demands.specs.Sheet.{Sheet}
@@ -51,59 +52,59 @@ unfolding Proper own over
 own-proper c l j m = l
 
 -- question 8 both ways, question 9 both ways
-module _ (bs is : List ℕ) where
-  pub winners-passed : winners-good (book-in bs) is ≡ true → worth (book-in bs) is ≡ greatest (book-in bs) 0 →
-      Optimal (book-in bs) is × Rising (book-in bs) is
-  unfolding winners-good
-  winners-passed h v = let (c, r) = combinations-agree bs is .0 h in (value-optimal bs is c v, r)
+module _ (b : Book) (shaped : Shaped b) (is : List ℕ) where
+  pub winners-passed : winners-good b is ≡ true → worth b is ≡ greatest b 0 → Optimal b is × Rising b is
+  unfolding winners-good Combinations-agree
+  winners-passed h v = let (c, r) = combinations-agree b shaped is .0 h in (value-optimal b shaped is c v, r)
 
-  pub passed-winners : Optimal (book-in bs) is → Rising (book-in bs) is → winners-good (book-in bs) is ≡ true
-  unfolding winners-good
-  passed-winners o r = combinations-agree bs is .1 (o .combination, r)
+  pub passed-winners : Optimal b is → Rising b is → winners-good b is ≡ true
+  unfolding winners-good Combinations-agree
+  passed-winners o r = combinations-agree b shaped is .1 (o .combination, r)
 
 -- admissible discounts keep the bounds of winners and of sets, and the other way round
-module _ (bs is : List ℕ) (w : ℕ) (long : length is ≡ w) (best : Optimal (book-in bs) is) (d : ℕ → Fraction) (proper : Proper w d) where
-  pub admissible-reserve : Admissible (book-in bs) is d → Reserve-kept w (rho (book-in bs) is) d
-  admissible-reserve a = subst (λ (n : ℕ). Reserve-kept n (rho (book-in bs) is) d) long (a .reserve)
+module _ (b : Book) (shaped : Shaped b) (is : List ℕ) (w : ℕ) (long : length is ≡ w) (best : Optimal b is) (d : ℕ → Fraction)
+    (proper : Proper w d) where
+  pub admissible-reserve : Admissible b is d → Reserve-kept w (rho b is) d
+  admissible-reserve a = subst (λ (n : ℕ). Reserve-kept n (rho b is) d) long (a .reserve)
 
-  pub admissible-sets : Admissible (book-in bs) is d → Sets-kept w (sigma (book-in bs) is) d
-  admissible-sets a = sets-suffice bs is w long best d proper (admissible-reserve a) .0 (a .none-better)
+  pub admissible-sets : Admissible b is d → Sets-kept w (sigma b is) d
+  admissible-sets a = sets-suffice b shaped is w long best d proper (admissible-reserve a) .0 (a .none-better)
 
-  pub kept-admissible : Reserve-kept w (rho (book-in bs) is) d → Sets-kept w (sigma (book-in bs) is) d → Admissible (book-in bs) is d
+  pub kept-admissible : Reserve-kept w (rho b is) d → Sets-kept w (sigma b is) d → Admissible b is d
   kept-admissible r s = record {
-    reserve = subst (λ (n : ℕ). Reserve-kept n (rho (book-in bs) is) d) (sym long) r;
-    none-better = sets-suffice bs is w long best d proper r .1 s;
+    reserve = subst (λ (n : ℕ). Reserve-kept n (rho b is) d) (sym long) r;
+    none-better = sets-suffice b shaped is w long best d proper r .1 s;
   }
 
 -- a sheet in its ranges passes the questions just where it is acceptable
-module _ (bs : List ℕ) (h : Sheet) (long : length (h .bids) ≡ h .numbers .w) (ranges : in-range (h .numbers) ≡ true) where
-  pub passed-acceptable : Sheet-passed (book-in bs) h → Acceptable (book-in bs) h
+module _ (b : Book) (shaped : Shaped b) (h : Sheet) (long : length (h .bids) ≡ h .numbers .w) (ranges : in-range (h .numbers) ≡ true) where
+  pub passed-acceptable : Sheet-passed b h → Acceptable b h
   passed-acceptable p =
       let c = h .numbers in
       let q = scales c ranges .q in
-      let (best, order) = winners-passed bs (h .bids) (p .winners) (p .value) in
+      let (best, order) = winners-passed b shaped (h .bids) (p .winners) (p .value) in
       record {
         order = order;
         winners = best;
-        discounts = kept-admissible bs (h .bids) (c .w) long best (own c) (own-proper c q)
-            (own-reserve c (rho (book-in bs) (h .bids)) q .1 (p .numbers .reserve))
-            (own-sets c (sigma (book-in bs) (h .bids)) q .1 (p .numbers .sets));
+        discounts = kept-admissible b shaped (h .bids) (c .w) long best (own c) (own-proper c q)
+            (own-reserve c (rho b (h .bids)) q .1 (p .numbers .reserve))
+            (own-sets c (sigma b (h .bids)) q .1 (p .numbers .sets));
         multipliers = p .numbers .balances;
       }
 
-  pub acceptable-passed : Acceptable (book-in bs) h → Sheet-passed (book-in bs) h
+  pub acceptable-passed : Acceptable b h → Sheet-passed b h
   acceptable-passed a =
       let c = h .numbers in
       let q = scales c ranges .q in
       record {
         ranges = ranges;
-        winners = passed-winners bs (h .bids) (a .winners) (a .order);
-        value = optimal-value bs (h .bids) (a .winners);
+        winners = passed-winners b shaped (h .bids) (a .winners) (a .order);
+        value = optimal-value b shaped (h .bids) (a .winners);
         numbers = record {
-          reserve = own-reserve c (rho (book-in bs) (h .bids)) q .0
-              (admissible-reserve bs (h .bids) (c .w) long (a .winners) (own c) (own-proper c q) (a .discounts));
-          sets = own-sets c (sigma (book-in bs) (h .bids)) q .0
-              (admissible-sets bs (h .bids) (c .w) long (a .winners) (own c) (own-proper c q) (a .discounts));
+          reserve = own-reserve c (rho b (h .bids)) q .0
+              (admissible-reserve b shaped (h .bids) (c .w) long (a .winners) (own c) (own-proper c q) (a .discounts));
+          sets = own-sets c (sigma b (h .bids)) q .0
+              (admissible-sets b shaped (h .bids) (c .w) long (a .winners) (own c) (own-proper c q) (a .discounts));
           balances = a .multipliers;
         };
       }

@@ -11,8 +11,8 @@ use lib.Seq.{getD-take}
 use borrow.Author.Tests.{leb-true, le-leb}
 use Rattle.book.specs.Bytes.{byte, field, bytes-at}
 use Rattle.book.specs.Layout.{book-long, K-of, n-of, m-of, statuses-from, bids-from, kind-here, kinds-in, bid-here, bids-in, book-in}
-use Rattle.book.specs.Questions.{version-good, book-formula, counts-good, tables-good, bids-good, amounts-good, book-refusal}
-use Rattle.book.proofs.Soundness.{counts, questions}
+use Rattle.book.specs.Questions.{version-good, book-formula, counts-good, book-refusal}
+use Rattle.book.proofs.Refusals.{counts, questions}
 
 -- below N the bytes are the same, and up to N the second are as long as the first
 pub record Alike (N : ℕ) (bs cs : List ℕ) : Type 0 where
@@ -117,8 +117,5 @@ module _ (N : ℕ) (bs cs : List ℕ) (a : Alike N bs cs) (ends : book-formula (
   unfolding book-refusal book-formula
   sound-alike h =
       let q = questions bs h in
-      let same = book-alike in
-      let tables : tables-good (book-in cs) ≡ true = ap tables-good (sym same) ∙ q .three in
-      let bids : bids-good (book-in cs) ≡ true = ap bids-good (sym same) ∙ q .four in
-      let amounts : amounts-good (book-in cs) ≡ true = ap amounts-good (sym same) ∙ q .five in
-      rw (version-alike N bs cs a (omega arith) (q .one), counts-alike (q .two), tables, bids, amounts)
+      rw (version-alike N bs cs a (omega arith) (q .one), counts-alike (q .two), ← book-alike)
+      (rw (q .one, q .two) at h)

@@ -2,7 +2,6 @@
 -- alone. Cited by the contract of judging. Assumes nothing.
 use mathlib.Core.Path.{_≡_, refl, sym, ap, _∙_}
 use mathlib.Core.Bool.{true, false}
-use mathlib.Core.List.{List}
 use mathlib.Core.Logic.{⊎-elim}
 use Prim.Native.Nat.{ℕ, _+_, _*_, _-_, _≤_, _<_}
 use native.Mathlib.Nat.{le-trans, mul-le-mul-left, le-of-eq}
@@ -19,7 +18,7 @@ use Rattle.pricing.specs.Discounts.{own}
 use Rattle.book.specs.Book.{Book}
 use Rattle.demands.specs.Sheet.{Sheet}
 use Rattle.demands.specs.Winners.{win, rho}
-use Rattle.demands.specs.Input.{book, sheet, sheet-part, input-refusal, Accepted}
+use Rattle.demands.specs.Call.{Call, sheet, call-refusal, Accepted}
 use Rattle.sets.specs.Tables.{tabulate}
 use Rattle.sets.proofs.Tables.{tabulate-length, tabulate-at}
 use Rattle.demands.specs.Answer.{Answer, price, acceptance, refusal, answer, answer-of, Priced, Zeros, Answered}
@@ -77,34 +76,33 @@ module _ (b : Book) (h : Sheet) (long : length (h .bids) ≡ h .numbers .w) (few
     positive = positive;
     places = tabulate-length 6 (price b h);
     price =
-        λ k l. let below : k < h .numbers .w = omega arith in
+        λ k l. let below = le-trans l (le-of-eq long) in
         omega (
           arith,
           ap (λ (z : ℕ). z * h .numbers .q) (price-makes k below),
           ap (λ (z : ℕ). z * h .numbers .q) (tabulate-at 6 (price b h) k 0 (omega arith)),
         );
-    rest = λ k l. tabulate-zero 6 (price b h) k (price-past k (omega arith));
+    rest = λ k l. tabulate-zero 6 (price b h) k (price-past k (le-trans (le-of-eq (sym long)) l));
   }
 
--- EVERY INPUT
-module _ (bs : List ℕ) where
-  pub accepted-priced : Accepted bs → Priced (book bs) (sheet bs) (answer-of bs)
+-- EVERY CALL
+module _ (c : Call) where
+  pub accepted-priced : Accepted c → Priced (c .book) (sheet c) (answer-of c)
   unfolding answer-of
   accepted-priced h =
-      let p = accepted-passed bs h .sheet in
-      let s = scales (sheet bs .numbers) (p .ranges) in
-      rw (answer-accepted (input-refusal bs) (book bs) (sheet bs) h)
-      (acceptance-priced (book bs) (sheet bs) (sheet-winners (sheet-part bs)) (s .few) (s .q) (p .numbers .reserve))
+      let p = accepted-passed c h .sheet in
+      let s = scales (sheet c .numbers) (p .ranges) in
+      rw (answer-accepted (call-refusal c) (c .book) (sheet c) h)
+      (acceptance-priced (c .book) (sheet c) (sheet-winners (c .part)) (s .few) (s .q) (p .numbers .reserve))
 
-  pub refused-zeros : 1 ≤ input-refusal bs → Zeros (answer-of bs)
+  pub refused-zeros : 1 ≤ call-refusal c → Zeros (answer-of c)
   unfolding answer-of refusal
-  refused-zeros l =
-      rw (answer-refused (input-refusal bs) (book bs) (sheet bs) l) (record { w = refl; q = refl; prices = refl })
+  refused-zeros l = rw (answer-refused (call-refusal c) (c .book) (sheet c) l) (record { w = refl; q = refl; prices = refl })
 
-  pub answered : Answered bs
+  pub answered : Answered c
   unfolding answer-of
   answered = record {
-    number = answer-number (input-refusal bs) (book bs) (sheet bs);
+    number = answer-number (call-refusal c) (c .book) (sheet c);
     priced = accepted-priced;
     zeros = refused-zeros;
   }

@@ -2,7 +2,7 @@
 -- offers, and without a set of winners the greatest value is that without their clients. Cited by the laws of lowered bids.
 -- Assumes nothing.
 use mathlib.Core.Path.{_≡_, refl, sym, ap, _∙_}
-use mathlib.Core.Bool.{Bool, true, false, cond, not}
+use mathlib.Core.Bool.{Bool, true, false, cond}
 use mathlib.Core.List.{List}
 use Prim.Native.Nat.{ℕ, zero, suc, _+_, _≤_, _<_}
 use native.Mathlib.Nat.{le-trans, le-of-eq}
@@ -11,27 +11,22 @@ use lib.ListN.{length}
 use Rattle.sets.specs.Sums.{sum}
 use Rattle.sets.specs.Sets.{has}
 use Rattle.sets.proofs.Sums.{sum-ext}
-use Rattle.market.specs.Market.{at}
 use Rattle.market.specs.Combination as Market·
 use Rattle.market.specs.Vector.{entry, bid-of}
-use Rattle.market.specs.Restrict.{kept}
 use Rattle.market.proofs.Bools.{cond-false}
-use Rattle.market.proofs.Each.{each-if}
-use Rattle.market.proofs.Worth.{worth-eq}
-use Rattle.market.proofs.Kept.{combination-kept}
 use Rattle.pricing.specs.Auction.{Auction}
 use Rattle.book.specs.Book.{Book, client-of, clients, supplies}
-use Rattle.book.specs.Layout.{book-in}
+use Rattle.book.specs.Sound.{Shaped}
 use Rattle.winners.specs.Combinations.{market, amount-of, Combination}
-use Rattle.winners.specs.Greatest.{without, greatest-without, None-out}
+use Rattle.winners.specs.Greatest.{greatest-without}
 use Rattle.winners.specs.Surplus.{picked}
-use Rattle.winners.proofs.Greatest.{combination-without, greatest-value}
+use Rattle.winners.proofs.Promises.{to-staying, staying-unbeaten, staying-attained}
 use Rattle.winners.proofs.Surplus.{picked-true, true-picked}
 use Rattle.demands.specs.Winners.{clients-of}
 use Rattle.demands.proofs.Bools.{false-unless, same-test}
 use Rattle.demands.proofs.Keys.{Different, Absent, among, key-once}
 use Rattle.demands.proofs.Winners.{client, clients-length, clients-at}
-use Rattle.demands.proofs.Shares.{worth-out, worth-shared}
+use Rattle.demands.proofs.Shares.{worth-shared}
 
 module _ (b : Book) (is : List ℕ) where
   -- what a combination offers to others than the winners' clients
@@ -81,7 +76,7 @@ module _ (b : Book) (is : List ℕ) (w : ℕ) (long : length is ≡ w) (c : Comb
 
   -- what a combination gives to the winners outside a set and to all others is its worth without the set's clients
   outside : (s : ℕ) (xs : List ℕ) → Combination b xs →
-      others-get b is w s xs ≡ Market·.worth (λ i. cond (left-out b is s (client-of b i)) 0 (amount-of b i)) xs
+      others-get b is w s xs ≡ Market·.worth (to-staying b (left-out b is s)) xs
   unfolding rest gets market
   outside s xs d =
       ap (λ (z : ℕ). rest b is w xs + z)
@@ -89,44 +84,25 @@ module _ (b : Book) (is : List ℕ) (w : ℕ) (long : length is ≡ w) (c : Comb
       (λ k. entry (λ i. cond (has s k) 0 (amount-of b i)) (bid-of (market b) (client b is k) xs))
       (λ k l. sym (entry-cond (has s k) (amount-of b) (bid-of (market b) (client b is k) xs))))
       ∙ worth-shared (market b) (clients b) w (client b is) winners-different (amount-of b) (λ k i. cond (has s k) 0 (amount-of b i))
-      (λ i. cond (left-out b is s (client-of b i)) 0 (amount-of b i))
+      (to-staying b (left-out b is s))
       (λ i k l e. ap (λ (t : Bool). cond t 0 (amount-of b i)) (left-out-winner s k (client-of b i) l e))
       (λ i n. sym (cond-false (left-out b is s (client-of b i)) 0 (amount-of b i) (left-out-other s (client-of b i) n)))
       (supplies b) xs d
 
-module _ (bs is : List ℕ) (w : ℕ) (long : length is ≡ w) (c : Combination (book-in bs) is) where
-  pub unbeaten : (s : ℕ) (xs : List ℕ) → Combination (book-in bs) xs →
-      others-get (book-in bs) is w s xs ≤ greatest-without (book-in bs) (left-out (book-in bs) is s)
-  unfolding without market
-  unbeaten s xs d =
-      let b = book-in bs in
-      let out = left-out b is s in
-      let (e, n) = combination-without b out (kept (market b) (λ c. not (out c)) xs) .0
-      (combination-kept (market b) (λ c. not (out c)) (clients b) (supplies b) xs d) in
-      le-trans (le-of-eq (outside b is w long c s xs d ∙ worth-out (market b) out (amount-of b) xs))
-      (greatest-value bs out .unbeaten (kept (market b) (λ c. not (out c)) xs) e n)
+module _ (b : Book) (shaped : Shaped b) (is : List ℕ) (w : ℕ) (long : length is ≡ w) (c : Combination b is) where
+  pub unbeaten : (s : ℕ) (xs : List ℕ) → Combination b xs → others-get b is w s xs ≤ greatest-without b (left-out b is s)
+  unbeaten s xs d = le-trans (le-of-eq (outside b is w long c s xs d)) (staying-unbeaten b shaped (left-out b is s) xs d)
 
-  pub attained : (s : ℕ) → (a : (xs : List ℕ) × Combination (book-in bs) xs)
-      × (others-get (book-in bs) is w s (a .0) ≡ greatest-without (book-in bs) (left-out (book-in bs) is s))
-  unfolding None-out
-  attained s =
-      let b = book-in bs in
-      let out = left-out b is s in
-      let (xs, d, n, e) = greatest-value bs out .attained in
-      let within : ℕ → ℕ = λ i. cond (out (client-of b i)) 0 (amount-of b i) in (
-        (xs, d),
-        outside b is w long c s xs d
-            ∙ worth-eq within (amount-of b) xs (each-if (λ i. within i ≡ amount-of b i) xs
-            (λ k l. cond-false (out (client-of b (at xs k))) 0 (amount-of b (at xs k)) (n k l)))
-            ∙ e,
-      )
+  pub attained : (s : ℕ) →
+      (a : (xs : List ℕ) × Combination b xs) × (others-get b is w s (a .0) ≡ greatest-without b (left-out b is s))
+  attained s = let (xs, d, e) = staying-attained b shaped (left-out b is s) in ((xs, d), outside b is w long c s xs d ∙ e)
 
   abbrev pub auction : Auction w
   auction = record {
-    Allocation = (xs : List ℕ) × Combination (book-in bs) xs;
-    rest = λ a. rest (book-in bs) is w (a .0);
-    gets = λ a. gets (book-in bs) is (a .0);
-    without = λ s. greatest-without (book-in bs) (left-out (book-in bs) is s);
+    Allocation = (xs : List ℕ) × Combination b xs;
+    rest = λ a. rest b is w (a .0);
+    gets = λ a. gets b is (a .0);
+    without = λ s. greatest-without b (left-out b is s);
     unbeaten = λ s a l. unbeaten s (a .0) (a .1);
     attained = λ s l. attained s;
   }

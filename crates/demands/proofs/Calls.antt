@@ -1,5 +1,5 @@
 -- The worked calls A to J as one table: each input byte by byte, what is to be answered, and one computation that the definitions answer
--- just that. B and D have the s and the Y of A. Cited by the example of other discounts. Assumes nothing.
+-- just that. B and D have the s and the Y of A. What it computes with is cited by the other computed calls. Assumes nothing.
 use mathlib.Core.Path.{_≡_, refl}
 use mathlib.Core.List.{List, [], _∷_, _++_, map}
 use Prim.Native.Nat.{ℕ}
@@ -14,8 +14,8 @@ use Rattle.book.specs.Bytes.{field, bytes-at}
 use Rattle.book.specs.Lists.{within, all, count, all-to, total}
 use Rattle.book.specs.Book.{clients, standing, no-bid, bid-at, client-of, supplies, reserves-of}
 use Rattle.book.specs.Layout.{book-long, K-of, n-of, m-of, statuses-from, bids-from, kind-here, kinds-in, bid-here, bids-in, book-in}
-use Rattle.book.specs.Questions.{version-good, book-formula, counts-good, kind-good, status-good, tables-good, bid-good}
-use Rattle.book.specs.Questions.{bids-of, few-bids, bids-good, reserves-met, amounts-good, book-refusal}
+use Rattle.book.specs.Questions.{version-good, book-formula, counts-ranged, counts-good, kind-good, status-good, tables-good, bid-good}
+use Rattle.book.specs.Questions.{bids-of, few-bids, bids-good, reserves-met, amounts-good, entries-refusal, book-refusal}
 use Rattle.winners.specs.Combinations.{market, amount-of}
 use Rattle.winners.specs.Greatest.{without, greatest-without, discarded, greatest}
 use Rattle.winners.specs.Surplus.{any, picked, surplus}
@@ -25,7 +25,7 @@ use Rattle.demands.specs.Winners.{clients-of, sigma, win, reserves, rho}
 use Rattle.sets.specs.Tables.{tabulate}
 use Rattle.pricing.specs.Ranges.{signed, winners-at-most, sets-at-most, G-in-range, in-range}
 use Rattle.demands.specs.Questions.{form-good, winners-good, value-good, certificate-tests, sheet-tests, first-no, judged}
-use Rattle.demands.specs.Input.{sheet-part, input-refusal}
+use Rattle.demands.specs.Call.{sheet-part, call-in, call-refusal}
 use Rattle.demands.specs.Answer.{price, acceptance, refusal, answer, answer-of}
 use Rattle.winners.specs.Value.{value-refusal, value-of}
 
@@ -33,12 +33,12 @@ use Rattle.winners.specs.Value.{value-refusal, value-of}
 unfoldable pub computed : Unit {0}
 unfolding sum has sum-in over-sets holding single fits less open-to choose best worth rising-from is-combination every every-set
     same-signed slack test field bytes-at within all count all-to total clients standing no-bid bid-at client-of supplies reserves-of
-    book-long K-of n-of m-of statuses-from bids-from kind-here kinds-in bid-here bids-in book-in version-good book-formula counts-good
-    kind-good status-good tables-good bid-good bids-of few-bids bids-good reserves-met amounts-good book-refusal market amount-of without
-    greatest-without discarded greatest any picked surplus sheet-long sheet-w sheet-formula winner-place set-place of-winner of-set signed
-    numbers-in sheet-in clients-of sigma win reserves rho winners-at-most sets-at-most G-in-range in-range form-good winners-good value-good
-    certificate-tests sheet-tests first-no judged sheet-part input-refusal tabulate price acceptance refusal answer answer-of value-refusal
-    value-of
+    book-long K-of n-of m-of statuses-from bids-from kind-here kinds-in bid-here bids-in book-in version-good book-formula counts-ranged
+    counts-good kind-good status-good tables-good bid-good bids-of few-bids bids-good reserves-met amounts-good entries-refusal
+    book-refusal market amount-of without greatest-without discarded greatest any picked surplus sheet-long sheet-w sheet-formula
+    winner-place set-place of-winner of-set signed numbers-in sheet-in clients-of sigma win reserves rho winners-at-most sets-at-most
+    G-in-range in-range form-good winners-good value-good certificate-tests sheet-tests first-no judged sheet-part call-refusal tabulate
+    price acceptance refusal answer answer-of value-refusal value-of
 computed = tt
 
 -- NUMBERS below 256, in four bytes and in eight
@@ -111,10 +111,10 @@ discards = 0x04 ∷ 0x08 ∷ []
 
 -- THE ANSWERS: number, w, q and the six prices of A to I; number and value of J
 abbrev judging : List ℕ → List ℕ
-judging bs = let a = answer-of bs in a .number ∷ a .w ∷ a .q ∷ a .prices
+judging bs = let a = answer-of (call-in bs) in a .number ∷ a .w ∷ a .q ∷ a .prices
 
 abbrev weighing : (discard : ℕ) → List ℕ
-weighing d = let a = value-of book-A d in a .number ∷ a .value ∷ []
+weighing d = let a = value-of (book-refusal book-A) (book-in book-A) d in a .number ∷ a .value ∷ []
 
 pub table :
     map judging calls ++ map weighing discards

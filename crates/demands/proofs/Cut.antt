@@ -1,11 +1,11 @@
 -- How much of an input needs to be read: a sound book has at most 456 bytes and a sheet in form at most 950, so an input cut anywhere past
--- the longest call is answered alike. Cited by the program, which reads no more. Assumes nothing.
+-- the longest call is answered alike. Cited by the program, which reads no more, and by the longest call. Assumes nothing.
 use mathlib.Core.Path.{_≡_, sym, ap, _∙_}
 use mathlib.Core.Bool.{true, false, cond}
 use mathlib.Core.List.{List, [], _∷_}
 use mathlib.Core.Logic.{_⊎_, inl, inr, ⊎-elim}
 use Prim.Native.Nat.{ℕ, zero, suc, _+_, _-_, _≤_, _<_}
-use native.Mathlib.Nat.{le-trans, zero-add, suc-add}
+use native.Mathlib.Nat.{le-trans, le-of-eq, zero-add, suc-add}
 use native.Mathlib.Omega.{arith}
 use lib.Dec.{eqb}
 use lib.ListN.{take, drop, length-take}
@@ -16,12 +16,13 @@ use Rattle.book.specs.Book.{Book, clients}
 use Rattle.book.specs.Layout.{book-long, K-of, n-of, m-of, book-in}
 use Rattle.book.specs.Questions.{version-good, book-formula, counts-good, book-refusal}
 use Rattle.book.proofs.Products.{product-most}
-use Rattle.book.proofs.Soundness.{counts, questions, sound, longest-book}
+use Rattle.book.proofs.Refusals.{counts, questions}
 use Rattle.demands.specs.Sheet.{sheet-in}
 use Rattle.demands.specs.Questions.{form-good, judged}
-use Rattle.demands.specs.Input.{sheet-part, input-refusal, Accepted}
+use Rattle.demands.specs.Call.{sheet-part, call-in, call-refusal, input-refusal, Accepted}
 use Rattle.demands.specs.Answer.{answer, answer-of}
-use Rattle.demands.specs.More.{Cut, longest-call}
+use Rattle.demands.specs.Inputs.{Cut, longest-call}
+use Rattle.demands.proofs.Judgeable.{input-judgeable}
 use Rattle.demands.proofs.Bools.{same-test}
 use Rattle.demands.proofs.Form.{form-short, clients-few}
 use Rattle.demands.proofs.Alike.{alike-cut, alike-whole, field-alike, version-alike, book-alike, counts-alike}
@@ -40,6 +41,9 @@ unfolding book-formula
 counts-short bs h =
     let c = counts bs h in
     omega (arith, product-most 48 9 (m-of bs) (K-of bs + 5) (c .m-high) (omega (arith, c .K-range .1)), c .K-range, c .n-range)
+
+pub sound-short : (bs : List ℕ) → book-refusal bs ≡ 0 → book-long bs ≤ 456
+sound-short bs h = let two = questions bs h .two in le-trans (le-of-eq (counts bs two .formula)) (counts-short bs two)
 
 module _ (N : ℕ) (bs : List ℕ) (l : 456 ≤ N) where
   version-cut : version-good (take N bs) ≡ version-good bs
@@ -95,7 +99,7 @@ module _ (N : ℕ) (bs : List ℕ) (l : longest-call < N) where
   part-cut : book-refusal bs ≡ 0 → (M : ℕ) × (951 ≤ M) × (sheet-part (take N bs) ≡ take M (sheet-part bs))
   unfolding sheet-part
   part-cut h =
-      let short = longest-book bs (sound bs h) in
+      let short = sound-short bs h in
       let whole : N ≡ book-long bs + (N - book-long bs) = omega arith in (
         N - book-long bs,
         omega arith,
@@ -107,30 +111,32 @@ module _ (N : ℕ) (bs : List ℕ) (l : longest-call < N) where
   sound-cut h = book-cut N bs (omega arith) (questions bs h .two)
 
   pub number-cut : input-refusal (take N bs) ≡ input-refusal bs
-  unfolding input-refusal
+  unfolding call-refusal
   number-cut =
       ⊎-elim
       (λ (t : eqb (book-refusal bs) 0 ≡ true).
       let h = eqb-true (book-refusal bs) 0 t in
       let (M, long, part) = part-cut h in
-      rw (refusal-cut, t, sound-cut h, part) (judged-cut (book-in bs) (clients-few bs h) M long (sheet-part bs)))
+      let few = clients-few (call-in bs) (input-judgeable bs) h in
+      rw (refusal-cut, t, sound-cut h, part) (judged-cut (book-in bs) few M long (sheet-part bs)))
       (λ (t : eqb (book-refusal bs) 0 ≡ false). rw (refusal-cut, t))
       (either (eqb (book-refusal bs) 0))
 
   -- an accepted input's sheet is not cut
-  pub sheet-cut : Accepted bs → sheet-part (take N bs) ≡ sheet-part bs
+  pub sheet-cut : Accepted (call-in bs) → sheet-part (take N bs) ≡ sheet-part bs
   sheet-cut a =
-      let p = accepted-passed bs a in
+      let p = accepted-passed (call-in bs) a in
       let (M, long, part) = part-cut (p .sound) in
-      part ∙ uncut (book-in bs) (clients-few bs (p .sound)) M long (sheet-part bs) (inl (p .layout))
+      let few = clients-few (call-in bs) (input-judgeable bs) (p .sound) in
+      part ∙ uncut (book-in bs) few M long (sheet-part bs) (inl (p .layout))
 
-  pub answer-cut : answer-of (take N bs) ≡ answer-of bs
+  pub answer-cut : answer-of (call-in (take N bs)) ≡ answer-of (call-in bs)
   unfolding answer-of
   answer-cut =
       ⊎-elim
       (λ (t : eqb (input-refusal bs) 0 ≡ true).
       let a = eqb-true (input-refusal bs) 0 t in
-      rw (number-cut, sound-cut (accepted-passed bs a .sound), sheet-cut a))
+      rw (number-cut, sound-cut (accepted-passed (call-in bs) a .sound), sheet-cut a))
       (λ (t : eqb (input-refusal bs) 0 ≡ false).
       let refused : 1 ≤ input-refusal bs = omega (arith, eqb-false (input-refusal bs) 0 t) in
       ap (λ (n : ℕ). answer n (book-in (take N bs)) (sheet-in (sheet-part (take N bs)))) number-cut

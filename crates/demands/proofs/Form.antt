@@ -10,12 +10,10 @@ use lib.ListN.{length}
 use borrow.Author.Tests.{leb-true, le-leb, eqb-true, eq-eqb}
 use Rattle.book.specs.Bytes.{byte}
 use Rattle.book.specs.Book.{Book, clients}
-use Rattle.book.specs.Layout.{book-in}
-use Rattle.book.specs.Questions.{book-refusal}
-use Rattle.book.proofs.Places.{clients-count}
-use Rattle.book.proofs.Soundness.{sound}
 use Rattle.demands.specs.Sheet.{sheet-long, sheet-w, sheet-formula}
 use Rattle.demands.specs.Questions.{form-good}
+use Rattle.demands.specs.Call.{Call}
+use Rattle.demands.proofs.Judgeable.{Judgeable}
 use Rattle.demands.proofs.Sheet.{sheet-formula-most}
 
 pub record Form (b : Book) (ss : List ℕ) : Type 0 where
@@ -56,5 +54,5 @@ module _ (b : Book) (ss : List ℕ) where
     form-short = le-trans (le-of-eq (form-facts h .whole)) (sheet-formula-most (sheet-w ss) form-few)
 
 -- as in a sound book
-pub clients-few : (bs : List ℕ) → book-refusal bs ≡ 0 → clients (book-in bs) ≤ 6
-clients-few bs h = le-trans (le-of-eq (clients-count bs)) (sound bs h .n-high)
+pub clients-few : (c : Call) → Judgeable c → c .refusal ≡ 0 → clients (c .book) ≤ 6
+clients-few c j e = j .sound e .n-high

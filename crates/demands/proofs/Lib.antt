@@ -1,6 +1,7 @@
 -- The theorems. Assumes nothing.
--- Tests, sheets and winners.
+-- Tests, calls that can be judged, sheets and winners.
 pub mod Bools
+pub mod Judgeable
 pub mod Sheet
 pub mod Form
 pub mod Winners
@@ -16,13 +17,16 @@ pub mod Passed
 pub mod Accepted
 pub mod Promise
 pub mod Answer
--- The worked calls, computed.
+-- The worked calls and the edges, computed.
 pub mod Calls
+pub mod Written
+pub mod Edges
 pub mod Example
 -- What else is to be shown.
-pub mod More
+pub mod Bounds
 pub mod OneDenominator
 -- Reading: bytes cut and lengthened.
 pub mod Alike
 pub mod Pairs
 pub mod Cut
+pub mod Longest

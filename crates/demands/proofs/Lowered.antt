@@ -22,7 +22,7 @@ use Rattle.pricing.specs.Auction as Auction·
 use Rattle.pricing.proofs.Fractions.{Is, whole-is, zero-is, plus-is, minus-is, cond-is}
 use Rattle.pricing.proofs.Discounts.{at-most-same}
 use Rattle.book.specs.Book.{Book, client-of, clients, supplies}
-use Rattle.book.specs.Layout.{book-in}
+use Rattle.book.specs.Sound.{Shaped}
 use Rattle.winners.specs.Combinations.{market, amount-of, Combination}
 use Rattle.demands.specs.Winners.{win}
 use Rattle.demands.specs.Discounts.{discount-of, lowered, lowered-worth, None-better}
@@ -122,20 +122,19 @@ module _ (b : Book) (is : List ℕ) (w : ℕ) (long : length is ≡ w) (c : Comb
       ∙ ap (λ (n : ℕ). sum n (λ k. lowered-over b is D y (at is k))) (sym long) ∙ sym (worth-places (lowered-over b is D y) is)
 
 -- NO COMBINATION IS WORTH MORE, over the book and over its auction
-pub none-better-auction : (bs is : List ℕ) (w : ℕ) (long : length is ≡ w) (c : Combination (book-in bs) is)
+pub none-better-auction : (b : Book) (shaped : Shaped b) (is : List ℕ) (w : ℕ) (long : length is ≡ w) (c : Combination b is)
     (D : ℕ) → 1 ≤ D → (d : ℕ → Fraction) (y : ℕ → ℕ) → ((j : ℕ) → j < w → Is D (d j) (y j)) →
-    None-better (book-in bs) is d ↔ Auction·.None-better (auction bs is w long c) D (win (book-in bs) is) y
+    None-better b is d ↔ Auction·.None-better (auction b shaped is w long c) D (win b is) y
 unfolding None-better Auction·.None-better
-none-better-auction bs is w long c D positive d y each = (
-  λ h a. omega (arith, compared (a .0) .0 (h (a .0) (a .1)), shared (a .0) (a .1), winners-lowered (book-in bs) is w long c D y),
-  λ h xs e. compared xs .1 (omega (arith, h (xs, e), shared xs e, winners-lowered (book-in bs) is w long c D y)),
+none-better-auction b shaped is w long c D positive d y each = (
+  λ h a. omega (arith, compared (a .0) .0 (h (a .0) (a .1)), shared (a .0) (a .1), winners-lowered b is w long c D y),
+  λ h xs e. compared xs .1 (omega (arith, h (xs, e), shared xs e, winners-lowered b is w long c D y)),
 )
   where
-    compared : (xs : List ℕ) → AtMost (lowered-worth (book-in bs) is d xs) (lowered-worth (book-in bs) is d is)
-        ↔ (Market·.worth (lowered-over (book-in bs) is D y) xs ≤ Market·.worth (lowered-over (book-in bs) is D y) is)
-    compared = lowered-at-most (book-in bs) is D d y (λ j l. each j (omega arith)) positive
+    compared : (xs : List ℕ) → AtMost (lowered-worth b is d xs) (lowered-worth b is d is)
+        ↔ (Market·.worth (lowered-over b is D y) xs ≤ Market·.worth (lowered-over b is D y) is)
+    compared = lowered-at-most b is D d y (λ j l. each j (omega arith)) positive
 
-    shared : (xs : List ℕ) → Combination (book-in bs) xs →
-        D * rest (book-in bs) is w xs + sum w (λ k. D * gets (book-in bs) is xs k - y k)
-        ≡ Market·.worth (lowered-over (book-in bs) is D y) xs
-    shared = combination-lowered (book-in bs) is w long c D y
+    shared : (xs : List ℕ) → Combination b xs →
+        D * rest b is w xs + sum w (λ k. D * gets b is xs k - y k) ≡ Market·.worth (lowered-over b is D y) xs
+    shared = combination-lowered b is w long c D y

@@ -13,25 +13,25 @@ use borrow.Author.Tests.{eqb-false}
 use Rattle.market.specs.Market.{at}
 use Rattle.market.specs.Combination as Market·
 use Rattle.market.proofs.Bools.{either}
-use Rattle.market.proofs.VectorOf.{combination-sorted}
-use Rattle.pricing.specs.Certificate.{Within-reserve, Within-sets, Differs, Worse}
+use Rattle.pricing.specs.Certificate.{Differs, Worse}
 use Rattle.pricing.specs.Questions.{every}
 use Rattle.pricing.specs.Fractions.{Fraction, over, AtMost, Equal}
 use Rattle.pricing.specs.Discounts.{Proper, own, Unlike}
 use Rattle.pricing.proofs.Fractions.{Is, over-is}
 use Rattle.pricing.proofs.Discounts.{reserve-whole, sets-whole, inferior-whole}
 use Rattle.pricing.proofs.Best.{own-is}
-use Rattle.book.specs.Book.{clients, supplies}
-use Rattle.book.specs.Layout.{book-in}
-use Rattle.winners.specs.Combinations.{market}
-use Rattle.winners.proofs.Books.{supplied, combinations-agree}
+use Rattle.book.specs.Book.{Book}
+use Rattle.book.specs.Sound.{Shaped}
+use Rattle.winners.specs.Combinations.{Combinations-agree}
+use Rattle.winners.proofs.Books.{combinations-agree}
+use Rattle.winners.proofs.Promises.{combination-sorted}
 use Rattle.demands.specs.Winners.{sigma, rho}
 use Rattle.demands.specs.Questions.{winners-good}
-use Rattle.demands.specs.Input.{book, sheet, Accepted}
-use Rattle.demands.specs.Acceptable.{Optimal}
+use Rattle.demands.specs.Call.{Call, sheet, Accepted}
 use Rattle.demands.specs.Discounts.{lowered-worth, None-better, Admissible}
 use Rattle.demands.specs.OneDenominator.{lowered-over, None-better-over, Admissible-over, same-discounts}
 use Rattle.demands.specs.OneDenominator.{Best-discounts, Own-admissible, Sets-suffice-over}
+use Rattle.demands.proofs.Judgeable.{Judgeable, judgeable-shaped}
 use Rattle.demands.proofs.Lowered.{lowered-at-most}
 use Rattle.demands.proofs.Suffice.{sets-suffice}
 use Rattle.demands.proofs.Accepted.{scales, winners-passed}
@@ -48,25 +48,25 @@ all-over-proper : (n r : ℕ) (x : ℕ → ℕ) → 1 ≤ r → Proper n (all-ov
 unfolding Proper over
 all-over-proper n r x l j m = l
 
-module _ (bs is : List ℕ) (r : ℕ) (positive : 1 ≤ r) (x : ℕ → ℕ) where
-  compared : (xs : List ℕ) → AtMost (lowered-worth (book-in bs) is (all-over r x) xs) (lowered-worth (book-in bs) is (all-over r x) is)
-      ↔ (Market·.worth (lowered-over (book-in bs) is r x) xs ≤ Market·.worth (lowered-over (book-in bs) is r x) is)
-  compared = lowered-at-most (book-in bs) is r (all-over r x) x (all-over-is (length is) r x positive) positive
+module _ (b : Book) (shaped : Shaped b) (is : List ℕ) (r : ℕ) (positive : 1 ≤ r) (x : ℕ → ℕ) where
+  compared : (xs : List ℕ) → AtMost (lowered-worth b is (all-over r x) xs) (lowered-worth b is (all-over r x) is)
+      ↔ (Market·.worth (lowered-over b is r x) xs ≤ Market·.worth (lowered-over b is r x) is)
+  compared = lowered-at-most b is r (all-over r x) x (all-over-is (length is) r x positive) positive
 
   -- every combination has the bids of one by rising client
-  pub none-better-over : None-better (book-in bs) is (all-over r x) ↔ None-better-over (book-in bs) is r x
-  unfolding None-better None-better-over winners-good
+  pub none-better-over : None-better b is (all-over r x) ↔ None-better-over b is r x
+  unfolding None-better None-better-over winners-good Combinations-agree
   none-better-over = (
-    λ h xs t. compared xs .0 (h xs (combinations-agree bs xs .0 t .0)),
+    λ h xs t. compared xs .0 (h xs (combinations-agree b shaped xs .0 t .0)),
     λ h xs c. compared xs .1
-        (let b = book-in bs in
-        let (js, sorted, rising, same) = combination-sorted (market b) (clients b) (supplies b) xs c (supplied bs) in
-        le-trans (le-of-eq (sym (same (lowered-over (book-in bs) is r x)))) (h js (combinations-agree bs js .1 (sorted, rising)))),
+        (let (js, s) = combination-sorted b shaped xs c in
+        le-trans (le-of-eq (sym (s .same (lowered-over b is r x))))
+        (h js (combinations-agree b shaped js .1 (s .combination, s .rising)))),
   )
 
-  pub admissible-over : Admissible (book-in bs) is (all-over r x) ↔ Admissible-over (book-in bs) is r x
+  pub admissible-over : Admissible b is (all-over r x) ↔ Admissible-over b is r x
   admissible-over =
-      let reserve = reserve-whole (length is) r positive (all-over r x) x (all-over-is (length is) r x positive) (rho (book-in bs) is) in (
+      let reserve = reserve-whole (length is) r positive (all-over r x) x (all-over-is (length is) r x positive) (rho b is) in (
         λ a. record { reserve = reserve .0 (a .reserve); none-better = none-better-over .0 (a .none-better) },
         λ a. record { reserve = reserve .1 (a .reserve); none-better = none-better-over .1 (a .none-better) },
       )
@@ -84,46 +84,42 @@ pub other-differs : (w q : ℕ) (x : ℕ → ℕ) (r : ℕ) (y : ℕ → ℕ) �
 unfolding same-discounts Differs
 other-differs w q x r y e = let (j, l, f) = every-false w (λ j. eqb (y j * q) (x j * r)) e in (j, l, eqb-false (y j * q) (x j * r) f)
 
--- THE THREE STATEMENTS, each as a plain law and as it is stated
-pub accepted-best-over : (bs : List ℕ) → Accepted bs → (r : ℕ) → 1 ≤ r → (y : ℕ → ℕ) → Admissible-over (book bs) (sheet bs .bids) r y →
-    Differs (sheet bs .numbers .w) (sheet bs .numbers .q) (sheet bs .numbers .X) r y →
-    Worse (sheet bs .numbers .w) (sigma (book bs) (sheet bs .bids)) (sheet bs .numbers .q) (sheet bs .numbers .X) r y
-unfolding Differs Unlike Equal over own
-accepted-best-over bs h r positive y a (j, l, n) =
-    let c = sheet bs .numbers in
-    let q = scales c (accepted-in-form bs h .ranges) .q in
-    inferior-whole (c .w) (sigma (book bs) (sheet bs .bids)) (c .q) r (c .X) y (own c) (all-over r y) q positive (own-is c q)
-    (all-over-is (c .w) r y positive) .0
-    (accepted-best bs h (all-over r y) (all-over-proper (c .w) r y positive) (j, l, n)
-    (admissible-over bs (sheet bs .bids) r positive y .1 a))
+-- THE THREE STATEMENTS, the first two as a plain law and as they are stated
+module _ (c : Call) (j : Judgeable c) where
+  pub accepted-best-over : Accepted c → (r : ℕ) → 1 ≤ r → (y : ℕ → ℕ) → Admissible-over (c .book) (sheet c .bids) r y →
+      Differs (sheet c .numbers .w) (sheet c .numbers .q) (sheet c .numbers .X) r y →
+      Worse (sheet c .numbers .w) (sigma (c .book) (sheet c .bids)) (sheet c .numbers .q) (sheet c .numbers .X) r y
+  unfolding Differs Unlike Equal over own
+  accepted-best-over h r positive y a (k, l, other) =
+      let n = sheet c .numbers in
+      let form = accepted-in-form c h in
+      let shaped = judgeable-shaped c j (form .sound) in
+      let q = scales n (form .ranges) .q in
+      inferior-whole (n .w) (sigma (c .book) (sheet c .bids)) (n .q) r (n .X) y (own n) (all-over r y) q positive (own-is n q)
+      (all-over-is (n .w) r y positive) .0
+      (accepted-best c j h (all-over r y) (all-over-proper (n .w) r y positive) (k, l, other)
+      (admissible-over (c .book) shaped (sheet c .bids) r positive y .1 a))
 
-pub best-discounts : (bs : List ℕ) → Best-discounts bs
-unfolding Best-discounts
-best-discounts bs h ys r positive long a other =
-    let c = sheet bs .numbers in
-    accepted-best-over bs h r positive (at ys) a (other-differs (c .w) (c .q) (c .X) r (at ys) other)
+  pub best-discounts : Best-discounts c
+  unfolding Best-discounts
+  best-discounts h ys r positive a other =
+      let n = sheet c .numbers in
+      accepted-best-over h r positive (at ys) a (other-differs (n .w) (n .q) (n .X) r (at ys) other)
 
-pub accepted-own-over : (bs : List ℕ) → Accepted bs →
-    Admissible-over (book bs) (sheet bs .bids) (sheet bs .numbers .q) (sheet bs .numbers .X)
-unfolding own
-accepted-own-over bs h =
-    let c = sheet bs .numbers in
-    admissible-over bs (sheet bs .bids) (c .q) (scales c (accepted-in-form bs h .ranges) .q) (c .X) .0 (accepted-acceptable bs h .discounts)
+  pub own-admissible : Own-admissible c
+  unfolding Own-admissible own
+  own-admissible h =
+      let n = sheet c .numbers in
+      let form = accepted-in-form c h in
+      let shaped = judgeable-shaped c j (form .sound) in
+      admissible-over (c .book) shaped (sheet c .bids) (n .q) (scales n (form .ranges) .q) (n .X) .0 (accepted-acceptable c j h .discounts)
 
-pub own-admissible : (bs : List ℕ) → Own-admissible bs
-unfolding Own-admissible
-own-admissible = accepted-own-over
-
-pub bounds-suffice-over : (bs is : List ℕ) → Optimal (book-in bs) is → (r : ℕ) → 1 ≤ r → (x : ℕ → ℕ) →
-    Within-reserve (length is) r (rho (book-in bs) is) x →
-    None-better-over (book-in bs) is r x ↔ Within-sets (length is) r (sigma (book-in bs) is) x
-bounds-suffice-over bs is best r positive x reserve =
-    let each = all-over-is (length is) r x positive in
-    let within = reserve-whole (length is) r positive (all-over r x) x each (rho (book-in bs) is) .1 reserve in
-    Iff·trans (Iff·symm (none-better-over bs is r positive x))
-    (Iff·trans (sets-suffice bs is (length is) refl best (all-over r x) (all-over-proper (length is) r x positive) within)
-    (sets-whole (length is) r positive (all-over r x) x each (sigma (book-in bs) is)))
-
-pub sets-suffice-over : (bs is : List ℕ) → Sets-suffice-over bs is
+pub sets-suffice-over : (b : Book) → Shaped b → (is : List ℕ) → Sets-suffice-over b is
 unfolding Sets-suffice-over
-sets-suffice-over bs is t v = bounds-suffice-over bs is (winners-passed bs is t v .0)
+sets-suffice-over b shaped is t v r positive x reserve =
+    let best = winners-passed b shaped is t v .0 in
+    let each = all-over-is (length is) r x positive in
+    let within = reserve-whole (length is) r positive (all-over r x) x each (rho b is) .1 reserve in
+    Iff·trans (Iff·symm (none-better-over b shaped is r positive x))
+    (Iff·trans (sets-suffice b shaped is (length is) refl best (all-over r x) (all-over-proper (length is) r x positive) within)
+    (sets-whole (length is) r positive (all-over r x) x each (sigma b is)))

@@ -1,8 +1,7 @@
--- Inputs that pass the questions: what each question says of them, with the tests of 10 to 15 taken for what they ask; exactly these are
+-- Calls that pass the questions: what each question says of them, with the tests of 10 to 15 taken for what they ask; exactly these are
 -- accepted, and whatever else is refused has a number up to 15. Cited by the demands. Assumes nothing.
 use mathlib.Core.Path.{_≡_, refl}
-use mathlib.Core.Bool.{Bool, true, false, not, cond, and-eq-true-iff}
-use mathlib.Core.List.{List}
+use mathlib.Core.Bool.{Bool, true, false, cond, and-eq-true-iff}
 use Prim.Native.Nat.{ℕ, _≤_}
 use native.Mathlib.Omega.{arith}
 use lib.Dec.{eqb}
@@ -12,15 +11,14 @@ use Rattle.pricing.specs.Questions.{Asks, test, within-reserve, within-sets, co
 use Rattle.pricing.specs.Questions.{slack-sets, slack-reserve, slack-zero}
 use Rattle.pricing.proofs.Questions.{test-iff}
 use Rattle.book.specs.Book.{Book}
-use Rattle.book.specs.Layout.{book-in}
-use Rattle.book.specs.Questions.{version-good, counts-good, tables-good, bids-good, amounts-good, book-refusal}
 use Rattle.winners.specs.Combinations.{worth}
 use Rattle.winners.specs.Greatest.{greatest}
 use Rattle.demands.specs.Sheet.{Sheet}
 use Rattle.demands.specs.Winners.{sigma, rho}
 use Rattle.pricing.specs.Ranges.{in-range}
 use Rattle.demands.specs.Questions.{form-good, winners-good, value-good, certificate-tests, sheet-tests, judged}
-use Rattle.demands.specs.Input.{book, sheet, sheet-part, input-refusal, Accepted}
+use Rattle.demands.specs.Call.{Call, sheet, call-refusal, Accepted}
+use Rattle.demands.proofs.Judgeable.{Judgeable}
 use Rattle.demands.proofs.Chain.{All, none, more, first-no-all, all-first-no, first-no-most}
 
 -- QUESTIONS 10 TO 15
@@ -101,10 +99,10 @@ module _ (b : Book) (h : Sheet) where
   judged-most = omega (arith, first-no-most 7 (sheet-tests b h) (omega arith))
 
 -- ALL QUESTIONS
-pub record Input-passed (bs : List ℕ) : Type 0 where
-  pub sound : book-refusal bs ≡ 0
-  pub layout : form-good (book bs) (sheet-part bs) ≡ true
-  pub sheet : Sheet-passed (book bs) (sheet bs)
+pub record Call-passed (c : Call) : Type 0 where
+  pub sound : c .refusal ≡ 0
+  pub layout : form-good (c .book) (c .part) ≡ true
+  pub sheet : Sheet-passed (c .book) (sheet c)
 
 -- a first number, a test whose 'no' is 6, and a later number
 three-parts : (zero? form : Bool) (first later : ℕ) → eqb first 0 ≡ zero? → cond zero? (cond form later 6) first ≡ 0 →
@@ -118,28 +116,20 @@ three-most true true first later l m = m
 three-most true false first later l m = omega arith
 three-most false form first later l m = l
 
-pub accepted-passed : (bs : List ℕ) → Accepted bs → Input-passed bs
-unfolding input-refusal
-accepted-passed bs h =
-    let r = book-refusal bs in
-    let (e, f, j) = three-parts (eqb r 0) (form-good (book bs) (sheet-part bs)) r (judged (book bs) (sheet bs)) refl h in
-    record { sound = e; layout = f; sheet = judged-passed (book bs) (sheet bs) j }
+module _ (c : Call) where
+  pub accepted-passed : Accepted c → Call-passed c
+  unfolding call-refusal
+  accepted-passed h =
+      let r = c .refusal in
+      let (e, f, j) = three-parts (eqb r 0) (form-good (c .book) (c .part)) r (judged (c .book) (sheet c)) refl h in
+      record { sound = e; layout = f; sheet = judged-passed (c .book) (sheet c) j }
 
-pub passed-accepted : (bs : List ℕ) → Input-passed bs → Accepted bs
-unfolding input-refusal
-passed-accepted bs p = rw (p .sound, p .layout, passed-judged (book bs) (sheet bs) (p .sheet))
+  pub passed-accepted : Call-passed c → Accepted c
+  unfolding call-refusal
+  passed-accepted p = rw (p .sound, p .layout, passed-judged (c .book) (sheet c) (p .sheet))
 
-five-most : (a b c d e : Bool) → cond (not a) 1 (cond (not b) 2 (cond (not c) 3 (cond (not d) 4 (cond (not e) 5 0)))) ≤ 15
-five-most true true true true true = omega arith
-five-most true true true true false = omega arith
-five-most true true true false e = omega arith
-five-most true true false d e = omega arith
-five-most true false c d e = omega arith
-five-most false b c d e = omega arith
-
-pub refusal-most : (bs : List ℕ) → input-refusal bs ≤ 15
-unfolding input-refusal book-refusal
-refusal-most bs =
-    three-most (eqb (book-refusal bs) 0) (form-good (book bs) (sheet-part bs)) (book-refusal bs) (judged (book bs) (sheet bs))
-    (five-most (version-good bs) (counts-good bs) (tables-good (book-in bs)) (bids-good (book-in bs)) (amounts-good (book-in bs)))
-    (judged-most (book bs) (sheet bs))
+  pub refusal-most : Judgeable c → call-refusal c ≤ 15
+  unfolding call-refusal
+  refusal-most j =
+      three-most (eqb (c .refusal) 0) (form-good (c .book) (c .part)) (c .refusal) (judged (c .book) (sheet c)) (omega (arith, j .few))
+      (judged-most (c .book) (sheet c))

@@ -1,7 +1,7 @@
 -- What a combination is worth, shared out: to each of some clients what its bid weighs, and to all others together the rest. The weights
 -- may differ from client to client. Cited by the auction that a book makes and by the laws of lowered bids. Assumes nothing.
 use mathlib.Core.Path.{_≡_, refl, sym, _∙_}
-use mathlib.Core.Bool.{Bool, true, false, cond, not}
+use mathlib.Core.Bool.{true, false, cond}
 use mathlib.Core.List.{List, [], _∷_}
 use mathlib.Core.Logic.{⊎-elim}
 use Prim.Native.Nat.{ℕ, _+_, _*_, _<_}
@@ -14,7 +14,6 @@ use Rattle.sets.proofs.Sums.{sum-ext, sum-zero, sum-add, sum-front}
 use Rattle.market.specs.Market.{Market, at}
 use Rattle.market.specs.Combination.{Combination, worth}
 use Rattle.market.specs.Vector.{entry, bid-of}
-use Rattle.market.specs.Restrict.{kept}
 use Rattle.market.proofs.Bools.{either}
 use Rattle.market.proofs.Each.{Each, Pairwise, each-map, each-if}
 use Rattle.market.proofs.Parts.{Candidate, Apart, combination-candidates, combination-apart}
@@ -41,16 +40,6 @@ worth-sum : (w : ℕ) (f : ℕ → ℕ → ℕ) (is : List ℕ) → sum w (λ k.
 unfolding worth
 worth-sum w f [] = sum-zero w (λ k. 0) (λ k l. refl)
 worth-sum w f (i ∷ is) = omega (arith, worth-sum w f is, sum-add w (λ k. f k i) (λ k. worth (f k) is))
-
--- without the bids of clients that are out
-pub worth-out : (m : Market) (out : ℕ → Bool) (wt : ℕ → ℕ) (is : List ℕ) →
-    worth (λ i. cond (out (m .owner i)) 0 (wt i)) is ≡ worth wt (kept m (λ c. not (out c)) is)
-unfolding worth kept
-worth-out m out wt [] = refl
-worth-out m out wt (i ∷ is) =
-    ⊎-elim (λ (t : out (m .owner i) ≡ true). rw t (omega (arith, worth-out m out wt is)))
-    (λ (t : out (m .owner i) ≡ false). rw t (omega (arith, worth-out m out wt is)))
-    (either (out (m .owner i)))
 
 -- SHARES
 module _ (m : Market) (n : ℕ) where

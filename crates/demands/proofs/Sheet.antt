@@ -1,7 +1,7 @@
 -- What is read of a sheet: it has as many winners as its w says; the numbers of winners and sets stand at their places and are 0 elsewhere,
 -- as in an array that is filled up with zeros; and how long it can be. Cited by the demands and by the sheet's reader. Assumes nothing.
 use mathlib.Core.Path.{_≡_, refl, ap₂}
-use mathlib.Core.Bool.{_&&_, and-eq-true-iff}
+use mathlib.Core.Bool.{_&&_}
 use mathlib.Core.List.{List}
 use Prim.Native.Nat.{ℕ, _^_, _≤_, _<_}
 use native.Mathlib.Omega.{arith}
@@ -36,7 +36,7 @@ module _ (w : ℕ) (f : ℕ → ℕ) (j : ℕ) where
 module _ (w : ℕ) (f : ℕ → ℕ) (L : ℕ) where
   pub of-set-at : 1 ≤ L → L < 2 ^ w → of-set w f L ≡ f L
   unfolding of-set
-  of-set-at p l = cond-true (leb 1 L && ltb L (2 ^ w)) (f L) 0 (and-eq-true-iff (leb 1 L) (ltb L (2 ^ w)) .1 (le-leb 1 L p, lt-ltb L (2 ^ w) l))
+  of-set-at p l = cond-true (leb 1 L && ltb L (2 ^ w)) (f L) 0 (ap₂ _&&_ (le-leb 1 L p) (lt-ltb L (2 ^ w) l))
 
   pub of-set-past : 2 ^ w ≤ L → of-set w f L ≡ 0
   unfolding of-set

@@ -17,7 +17,7 @@ use Rattle.pricing.proofs.Denominators.{Common, common}
 use Rattle.pricing.proofs.Discounts.{none-whole}
 use Rattle.pricing.proofs.Best.{fraction-sets-suffice}
 use Rattle.book.specs.Book.{Book}
-use Rattle.book.specs.Layout.{book-in}
+use Rattle.book.specs.Sound.{Shaped}
 use Rattle.winners.specs.Combinations.{amount-of, Combination, worth}
 use Rattle.winners.specs.Greatest.{greatest, greatest-without, None-out}
 use Rattle.winners.specs.Surplus.{picked}
@@ -32,59 +32,54 @@ use Rattle.demands.proofs.Auctions.{left-out, auction}
 use Rattle.demands.proofs.Lowered.{none-better-auction}
 
 -- a combination is of greatest value just where it is worth v
-pub optimal-value : (bs is : List ℕ) → Optimal (book-in bs) is → worth (book-in bs) is ≡ greatest (book-in bs) 0
-unfolding None-out
-optimal-value bs is o =
-    let top = greatest-value bs (λ c. false) in
-    let (xs, c, n, e) = top .attained in
-    le-antisymm (top .unbeaten is (o .combination) (λ k l. refl)) (le-trans (le-of-eq (sym e)) (o .unbeaten xs c)) ∙ sym (greatest-all bs)
+module _ (b : Book) (shaped : Shaped b) (is : List ℕ) where
+  pub optimal-value : Optimal b is → worth b is ≡ greatest b 0
+  unfolding None-out
+  optimal-value o =
+      let top = greatest-value b shaped (λ c. false) in
+      let (xs, c, n, e) = top .attained in
+      le-antisymm (top .unbeaten is (o .combination) (λ k l. refl)) (le-trans (le-of-eq (sym e)) (o .unbeaten xs c)) ∙ sym (greatest-all b)
 
-pub value-optimal : (bs is : List ℕ) → Combination (book-in bs) is → worth (book-in bs) is ≡ greatest (book-in bs) 0 →
-    Optimal (book-in bs) is
-unfolding None-out
-value-optimal bs is c e = record {
-  combination = c;
-  unbeaten = λ xs d. le-trans (greatest-value bs (λ c. false) .unbeaten xs d (λ k l. refl)) (le-of-eq (sym (e ∙ greatest-all bs)));
-}
+  pub value-optimal : Combination b is → worth b is ≡ greatest b 0 → Optimal b is
+  unfolding None-out
+  value-optimal c e = record {
+    combination = c;
+    unbeaten = λ xs d. le-trans (greatest-value b shaped (λ c. false) .unbeaten xs d (λ k l. refl)) (le-of-eq (sym (e ∙ greatest-all b)));
+  }
 
 -- ρ is never more than the amount
 pub reserve-win : (b : Book) (is : List ℕ) (w : ℕ) (d : ℕ → Fraction) → Reserve-kept w (rho b is) d → Reserve-kept w (win b is) d
 unfolding Reserve-kept AtMost whole over
 reserve-win b is w d h j l = omega (arith, h j l, mul-le-mul-right (d j .den) (rho-most b is j))
 
-module _ (bs is : List ℕ) (w : ℕ) (long : length is ≡ w) (best : Optimal (book-in bs) is) where
+module _ (b : Book) (shaped : Shaped b) (is : List ℕ) (w : ℕ) (long : length is ≡ w) (best : Optimal b is) where
   -- the winners' amounts add up to their value
-  pub win-sum : sum w (win (book-in bs) is) ≡ worth (book-in bs) is
+  pub win-sum : sum w (win b is) ≡ worth b is
   unfolding win
-  win-sum = ap (λ (n : ℕ). sum n (win (book-in bs) is)) (sym long) ∙ sym (worth-places (amount-of (book-in bs)) is)
+  win-sum = ap (λ (n : ℕ). sum n (win b is)) (sym long) ∙ sym (worth-places (amount-of b) is)
 
-  pub sigma-makes : (s : ℕ) →
-      sigma (book-in bs) is s + greatest-without (book-in bs) (left-out (book-in bs) is s) ≡ sum w (win (book-in bs) is)
+  pub sigma-makes : (s : ℕ) → sigma b is s + greatest-without b (left-out b is s) ≡ sum w (win b is)
   unfolding sigma left-out
   sigma-makes s =
-      let σ = surplus-is bs (clients-of (book-in bs) is) s in
+      let σ = surplus-is b shaped (clients-of b is) s in
       omega (
         arith,
         σ .makes,
-        greatest-only-one bs (λ c. false) (σ .v) (σ .all),
-        greatest-only-one bs (picked (clients-of (book-in bs) is) s) (σ .u) (σ .others),
-        greatest-all bs,
-        optimal-value bs is best,
+        greatest-only-one b shaped (λ c. false) (σ .v) (σ .all),
+        greatest-only-one b shaped (picked (clients-of b is) s) (σ .u) (σ .others),
+        greatest-all b,
+        optimal-value b shaped is best,
         win-sum,
       )
 
-  pub sets-suffice : (d : ℕ → Fraction) → Proper w d → Reserve-kept w (rho (book-in bs) is) d →
-      None-better (book-in bs) is d ↔ Sets-kept w (sigma (book-in bs) is) d
+  pub sets-suffice : (d : ℕ → Fraction) → Proper w d → Reserve-kept w (rho b is) d → None-better b is d ↔ Sets-kept w (sigma b is) d
   sets-suffice d proper reserve =
-      Iff·trans (none-better-auction bs is w long (best .combination) (y .den) (y .positive) d (y .num) (y .each))
+      Iff·trans (none-better-auction b shaped is w long (best .combination) (y .den) (y .positive) d (y .num) (y .each))
       (Iff·trans (Iff·symm (none-whole w (y .den) (y .positive) d (y .num) (y .each) market (win b is)))
       (fraction-sets-suffice market (win b is) (sigma b is) (λ s l. sigma-makes s) d proper (reserve-win b is w d reserve)))
     where
-      b : Book
-      b = book-in bs
-
       market : Auction w
-      market = auction bs is w long (best .combination)
+      market = auction b shaped is w long (best .combination)
 
       y : Common w d
       y = common w d proper

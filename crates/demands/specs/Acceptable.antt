@@ -1,4 +1,4 @@
--- The two sides of the second demand: an input in form, and a sheet that deserves to be accepted, in words that name no recursion and no
+-- The two sides of the second demand: a call in form, and a sheet that deserves to be accepted, in words that name no recursion and no
 -- bound on sets where FORMAT names none. Cited by the demands. Assumes nothing: these are definitions.
 use mathlib.Core.Path.{_≡_}
 use mathlib.Core.Bool.{true}
@@ -7,20 +7,19 @@ use Prim.Native.Nat.{ℕ, _≤_}
 use Rattle.pricing.specs.Certificate.{Balances}
 use Rattle.pricing.specs.Discounts.{own}
 use Rattle.book.specs.Book.{Book}
-use Rattle.book.specs.Questions.{book-refusal}
 use Rattle.winners.specs.Combinations.{Combination, Rising, worth}
 use Rattle.demands.specs.Sheet.{Sheet}
 use Rattle.demands.specs.Winners.{sigma, rho}
 use Rattle.pricing.specs.Ranges.{in-range}
 use Rattle.demands.specs.Questions.{form-good}
-use Rattle.demands.specs.Input.{book, sheet, sheet-part}
+use Rattle.demands.specs.Call.{Call, sheet}
 use Rattle.demands.specs.Discounts.{Admissible}
 
 -- a sheet in its layout (question 6) and its ranges (7) after a sound book (1 to 5)
-pub record In-form (input : List ℕ) : Type 0 where
-  pub sound : book-refusal input ≡ 0
-  pub layout : form-good (book input) (sheet-part input) ≡ true
-  pub ranges : in-range (sheet input .numbers) ≡ true
+pub record In-form (c : Call) : Type 0 where
+  pub sound : c .refusal ≡ 0
+  pub layout : form-good (c .book) (c .part) ≡ true
+  pub ranges : in-range (sheet c .numbers) ≡ true
 
 -- a combination of greatest value
 pub record Optimal (b : Book) (is : List ℕ) : Type 0 where

@@ -13,7 +13,7 @@ use Rattle.pricing.specs.Discounts.{own}
 use Rattle.book.specs.Book.{Book}
 use Rattle.demands.specs.Sheet.{Sheet}
 use Rattle.demands.specs.Winners.{win}
-use Rattle.demands.specs.Input.{book, sheet, input-refusal, Accepted}
+use Rattle.demands.specs.Call.{Call, sheet, call-refusal, Accepted}
 
 pub record Answer : Type 0 where
   pub number : ℕ
@@ -36,8 +36,8 @@ refusal n = record { number = n; w = 0; q = 0; prices = replicate 6 0 }
 unfoldable pub answer : (number : ℕ) → Book → Sheet → Answer
 answer n b h = let accepted = acceptance b h in cond (eqb n 0) accepted (refusal n)
 
-unfoldable pub answer-of : (input : List ℕ) → Answer
-answer-of bs = answer (input-refusal bs) (book bs) (sheet bs)
+unfoldable pub answer-of : Call → Answer
+answer-of c = answer (call-refusal c) (c .book) (sheet c)
 
 -- THE PRICES ARE RIGHT: each, over q, makes the winner's amount together with its discount, so nothing stopped at zero
 pub record Priced (b : Book) (h : Sheet) (r : Answer) : Type 0 where
@@ -56,8 +56,8 @@ pub record Zeros (r : Answer) : Type 0 where
   pub q : r .q ≡ 0
   pub prices : r .prices ≡ replicate 6 0
 
--- what is answered to an input: its number; right prices on acceptance, zeros after a refusal
-pub record Answered (input : List ℕ) : Type 0 where
-  pub number : answer-of input .number ≡ input-refusal input
-  pub priced : Accepted input → Priced (book input) (sheet input) (answer-of input)
-  pub zeros : 1 ≤ input-refusal input → Zeros (answer-of input)
+-- what is answered to a call: its number; right prices on acceptance, zeros after a refusal
+pub record Answered (c : Call) : Type 0 where
+  pub number : answer-of c .number ≡ call-refusal c
+  pub priced : Accepted c → Priced (c .book) (sheet c) (answer-of c)
+  pub zeros : 1 ≤ call-refusal c → Zeros (answer-of c)

@@ -1,25 +1,19 @@
--- Discounts as fractions, one for each winner, and when they are admissible (FORMAT, "Terms"): bids lowered by them, and combinations in
+-- Discounts as fractions, by winner, and when they are admissible (FORMAT, "Terms"): bids lowered by them, and combinations in
 -- any order of the bids so lowered. Cited by the demands. Assumes nothing: these are definitions.
-use mathlib.Core.Path.{_≡_}
 use mathlib.Core.Bool.{cond}
 use mathlib.Core.List.{List, [], _∷_}
 use Prim.Native.Nat.{ℕ, suc}
 use lib.Dec.{eqb}
 use lib.ListN.{length, getD}
 use Rattle.pricing.specs.Fractions.{Fraction, whole, plus, minus, AtMost}
-use Rattle.pricing.specs.Discounts.{Proper, Reserve-kept}
+use Rattle.pricing.specs.Discounts.{Reserve-kept}
 use Rattle.book.specs.Book.{Book, client-of}
 use Rattle.winners.specs.Combinations.{amount-of, Combination}
 use Rattle.demands.specs.Winners.{rho}
 
--- the j-th of a list of discounts
+-- the j-th of a list of discounts. A list may be longer or shorter than the winners: past its end the discount is 0
 abbrev pub discount : List Fraction → (j : ℕ) → Fraction
 discount ds j = getD ds j (whole 0)
-
--- one for each of w winners, each a whole number, not below zero, over a whole number from 1 up
-pub record Discounts (w : ℕ) (ds : List Fraction) : Type 0 where
-  pub one-each : length ds ≡ w
-  pub proper : Proper w (discount ds)
 
 -- the discount of the winner who is client c; 0 if c has no winner
 unfoldable pub discount-of : Book → (c : ℕ) → (winners : List ℕ) → (d : ℕ → Fraction) → Fraction

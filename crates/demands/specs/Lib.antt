@@ -1,9 +1,9 @@
 -- Sheets, the questions put to them, and what is promised of the answer. Assumes nothing.
--- The input: the sheet's layout, what is judged of its winners, questions 6 to 15, and the input as a whole.
+-- What is judged: the sheet's layout, what is judged of its winners, questions 6 to 15, and the call as a whole.
 pub mod Sheet
 pub mod Winners
 pub mod Questions
-pub mod Input
+pub mod Call
 -- The words of the demands, and the demands.
 pub mod Discounts
 pub mod Acceptable
@@ -11,5 +11,6 @@ pub mod Promise
 -- What is answered.
 pub mod Answer
 -- What else is to be shown.
+pub mod Bounds
 pub mod OneDenominator
-pub mod More
+pub mod Inputs

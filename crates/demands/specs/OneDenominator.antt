@@ -13,12 +13,11 @@ use Rattle.market.specs.Combination as Market·
 use Rattle.pricing.specs.Certificate.{Within-reserve, Within-sets, Worse}
 use Rattle.pricing.specs.Questions.{every}
 use Rattle.book.specs.Book.{Book, client-of}
-use Rattle.book.specs.Layout.{book-in}
 use Rattle.winners.specs.Combinations.{amount-of, worth}
 use Rattle.winners.specs.Greatest.{greatest}
 use Rattle.demands.specs.Winners.{sigma, rho}
 use Rattle.demands.specs.Questions.{winners-good}
-use Rattle.demands.specs.Input.{book, sheet, Accepted}
+use Rattle.demands.specs.Call.{Call, sheet, Accepted}
 
 -- the numerator of the winner who is client c; 0 if c has no winner
 unfoldable pub numerator-of : Book → (c : ℕ) → (winners : List ℕ) → (x : ℕ → ℕ) → ℕ
@@ -42,21 +41,21 @@ pub record Admissible-over (b : Book) (winners : List ℕ) (r : ℕ) (x : ℕ �
 unfoldable pub same-discounts : (w q : ℕ) → (x : ℕ → ℕ) → (r : ℕ) → (y : ℕ → ℕ) → Bool
 same-discounts w q x r y = every w (λ j. eqb (y j * q) (x j * r))
 
--- any other discounts over a denominator r that are admissible have a lesser sum, or an equal sum and a greater distance
-unfoldable pub Best-discounts : (input : List ℕ) → Type 0
-Best-discounts bs =
-    let h = sheet bs in
-    Accepted bs → (ys : List ℕ) (r : ℕ) → 1 ≤ r → length ys ≡ h .numbers .w → Admissible-over (book bs) (h .bids) r (at ys) →
+-- any other discounts over a denominator r that are admissible have a lesser sum, or an equal sum and a greater distance. A list of
+-- numerators may be longer or shorter than the winners: past its end they are 0
+unfoldable pub Best-discounts : Call → Type 0
+Best-discounts c =
+    let h = sheet c in
+    Accepted c → (ys : List ℕ) (r : ℕ) → 1 ≤ r → Admissible-over (c .book) (h .bids) r (at ys) →
     same-discounts (h .numbers .w) (h .numbers .q) (h .numbers .X) r (at ys) ≡ false →
-    Worse (h .numbers .w) (sigma (book bs) (h .bids)) (h .numbers .q) (h .numbers .X) r (at ys)
+    Worse (h .numbers .w) (sigma (c .book) (h .bids)) (h .numbers .q) (h .numbers .X) r (at ys)
 
 -- an accepted sheet's own discounts are admissible
-unfoldable pub Own-admissible : (input : List ℕ) → Type 0
-Own-admissible bs = Accepted bs → Admissible-over (book bs) (sheet bs .bids) (sheet bs .numbers .q) (sheet bs .numbers .X)
+unfoldable pub Own-admissible : Call → Type 0
+Own-admissible c = Accepted c → Admissible-over (c .book) (sheet c .bids) (sheet c .numbers .q) (sheet c .numbers .X)
 
 -- for winners by rising client and of value v, and discounts up to ρ, none is better exactly where the sum of every set is at most its σ
-unfoldable pub Sets-suffice-over : (bs winners : List ℕ) → Type 0
-Sets-suffice-over bs is =
-    winners-good (book-in bs) is ≡ true → worth (book-in bs) is ≡ greatest (book-in bs) 0 →
-    (r : ℕ) → 1 ≤ r → (x : ℕ → ℕ) → Within-reserve (length is) r (rho (book-in bs) is) x →
-    None-better-over (book-in bs) is r x ↔ Within-sets (length is) r (sigma (book-in bs) is) x
+unfoldable pub Sets-suffice-over : Book → (winners : List ℕ) → Type 0
+Sets-suffice-over b is =
+    winners-good b is ≡ true → worth b is ≡ greatest b 0 → (r : ℕ) → 1 ≤ r → (x : ℕ → ℕ) → Within-reserve (length is) r (rho b is) x →
+    None-better-over b is r x ↔ Within-sets (length is) r (sigma b is) x

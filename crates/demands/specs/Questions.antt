@@ -1,5 +1,5 @@
--- Questions 6 to 15, put to a sheet over a book, and the number of the first 'no' (FORMAT, "Questions"). Questions 7 and
--- 10 to 15 are the certificate's own. Cited by the input's refusal and by the contracts of judging. Assumes nothing: these are definitions.
+-- Questions 6 to 15, put to a sheet over a book, and the number of the first 'no' (FORMAT, "Questions"). Questions 7 and 10 to 15 are the
+-- certificate's own. Cited by the number of a call and by the contracts of judging. Assumes nothing: these are definitions.
 use mathlib.Core.Bool.{Bool, _&&_, cond}
 use mathlib.Core.List.{List, [], _∷_}
 use Prim.Native.Nat.{ℕ, suc}

@@ -1,20 +1,20 @@
 // The library for callers in C and Rust: functions that return their answers by value and lend nothing.
-use book::layout;
 use judge::Prices;
 use text::Text;
 use winners::SigmaTable;
 use winners::Worth;
-ghost use mathlib.Core.List.{[], _∷_};
-ghost use Rattle.book.specs.Layout.{n-of};
+ghost use Rattle.book.specs.Layout.{book-in};
+ghost use Rattle.book.specs.Questions.{book-refusal};
+ghost use Rattle.demands.specs.Call.{call-in};
 ghost use Rattle.judge.specs.Judgement.{Judgement};
 ghost use Rattle.listing.specs.Listing.{Listed};
-ghost use Rattle.winners.specs.Surpluses.{Surpluses-are};
+ghost use Rattle.winners.specs.Surpluses.{All-surpluses-are};
 ghost use Rattle.winners.specs.Worth.{Worth-is};
 
 // The greatest value of a book with clients discarded.
 #[no_mangle]
 pub extern "C" fn gimletsorrel_greatest_value(book: &[u8], discard: u8) -> Worth
-    ensures { λ r. ⌜ Worth-is (now (book .entry)) discard (r .number) (r .value) ⌝ }
+    ensures { λ r. ⌜ Worth-is (book-refusal (now (book .entry))) (book-in (now (book .entry))) discard (r .number) (r .value) ⌝ }
 {
     winners::greatest_value(book, discard)
 }
@@ -22,16 +22,15 @@ pub extern "C" fn gimletsorrel_greatest_value(book: &[u8], discard: u8) -> Worth
 // The greatest value of a book, and σ of every set of its clients.
 #[no_mangle]
 pub extern "C" fn gimletsorrel_surpluses(book: &[u8]) -> SigmaTable
-    ensures { λ r. ⌜ Surpluses-are (now (book .entry)) (1 ∷ 2 ∷ 3 ∷ 4 ∷ 5 ∷ 6 ∷ []) (n-of (now (book .entry))) (r .number) (r .value) (r .sigma) ⌝ }
+    ensures { λ r. ⌜ All-surpluses-are (now (book .entry)) (r .number) (r .value) (r .sigma) ⌝ }
 {
-    let n = layout::clients(book) as usize;
-    winners::surpluses(book, [1, 2, 3, 4, 5, 6], n)
+    winners::surpluses(book)
 }
 
 // The answer to an input: a book, and the sheet after it.
 #[no_mangle]
 pub extern "C" fn gimletsorrel_judge_sheet(input: &[u8]) -> Prices
-    ensures { λ r. ⌜ Judgement (now (input .entry)) r ⌝ }
+    ensures { λ r. ⌜ Judgement (call-in (now (input .entry))) r ⌝ }
 {
     judge::judge_sheet(input)
 }

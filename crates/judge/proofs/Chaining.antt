@@ -1,4 +1,4 @@
--- The chain of questions 7 to 15 by where it ends. Cited by the proofs of src/chain.rt. Assumes nothing.
+-- The chain of questions 7 to 15 by where it ends. Cited by the laws of weighing and of the certificate. Assumes nothing.
 use mathlib.Core.Path.{_≡_}
 use mathlib.Core.Bool.{true, false, cond, and-assoc}
 use Rattle.pricing.specs.Ranges.{in-range}
@@ -12,25 +12,20 @@ use Rattle.judge.specs.Chain.{certificate-judged}
 use Rattle.demands.specs.Questions.{winners-good, value-good, certificate-tests, sheet-tests, first-no, judged}
 
 module _ (b : Book) (h : Sheet) where
+  -- 7
   pub judged-range : in-range (h .numbers) ≡ false → 7 ≡ judged b h
   unfolding judged sheet-tests first-no
   judged-range e = rw e
 
-  pub judged-winners : in-range (h .numbers) ≡ true → winners-good b (h .bids) ≡ false → 8 ≡ judged b h
-  unfolding judged sheet-tests first-no
-  judged-winners e f = rw (e, f)
-
-  pub judged-value : in-range (h .numbers) ≡ true → winners-good b (h .bids) ≡ true → value-good b (h .bids) ≡ false → 9 ≡ judged b h
-  unfolding judged sheet-tests first-no
-  judged-value e f g = rw (e, f, g)
-
-  pub judged-certificate : in-range (h .numbers) ≡ true → winners-good b (h .bids) ≡ true → value-good b (h .bids) ≡ true
-      → certificate-judged b h ≡ judged b h
+  -- 8, 9 and the later ones
+  pub judged-winners : in-range (h .numbers) ≡ true
+      → cond (winners-good b (h .bids)) (cond (value-good b (h .bids)) (certificate-judged b h) 9) 8 ≡ judged b h
   unfolding judged sheet-tests first-no certificate-judged
-  judged-certificate e f g = rw (e, f, g)
+  judged-winners e = rw e
 
   -- 10, and the first of 11 to 15
   pub certificate-first : certificate-judged b h
-      ≡ cond (test within-reserve (h .numbers) (sigma b (h .bids)) (rho b (h .bids))) (first-failed (h .numbers) (sigma b (h .bids)) (rho b (h .bids))) 10
+      ≡ cond (test within-reserve (h .numbers) (sigma b (h .bids)) (rho b (h .bids)))
+      (first-failed (h .numbers) (sigma b (h .bids)) (rho b (h .bids))) 10
   unfolding certificate-judged certificate-tests first-no first-failed slack-test
   certificate-first = rw (and-assoc (test slack-sets _ _ _) (test slack-reserve _ _ _) (test slack-zero _ _ _))

@@ -1,34 +1,33 @@
--- Question 6 as it is tested is question 6 of every book with that number of clients, together with the bound of six winners; what it
--- leaves, and what refuses at once. Cited by the proofs of the test and of `read`. Assumes nothing.
-use mathlib.Core.Path.{_≡_, ap}
-use mathlib.Core.Bool.{Bool, true, false, _&&_, and-eq-true-iff}
+-- Question 6 by the number of winners: refused at once where there are too many, else decided by version and lengths. Cited by the proof of
+-- the test. Assumes nothing.
+use mathlib.Core.Path.{_≡_, refl}
+use mathlib.Core.Bool.{Bool, true, false, _&&_}
 use mathlib.Core.List.{List}
-use Prim.Native.Nat.{ℕ, _≤_, _<_}
-use lib.Dec.{leb}
-use borrow.Author.Tests.{leb-true, lt-leb, le-leb}
+use Prim.Native.Nat.{ℕ, _≤_, _<_, min}
+use native.Mathlib.Omega.{arith}
+use lib.Dec.{leb, eqb}
+use lib.ListN.{length}
+use borrow.Author.Tests.{lt-leb, le-leb}
+use Rattle.book.specs.Bytes.{byte}
 use Rattle.book.specs.Book.{Book, clients}
-use Rattle.demands.specs.Sheet.{sheet-w}
+use Rattle.demands.specs.Sheet.{sheet-w, sheet-long, sheet-formula}
 use Rattle.demands.specs.Questions.{form-good}
-use Rattle.judge.specs.FormTest.{part-good, few-good}
 
-pub part-form : (b : Book) (n : ℕ) (bs : List ℕ) → clients b ≡ n → part-good n bs ≡ form-good b bs
-unfolding part-good form-good
-part-form b n bs e = rw (← e)
+-- the test in the middle of three decides, or falls out
+middle-no : (a c : Bool) → false ≡ ((a && false) && c)
+middle-no true c = refl
+middle-no false c = refl
 
-pub few-form : (b : Book) (n : ℕ) (bs : List ℕ) → clients b ≡ n → few-good n bs ≡ (leb (sheet-w bs) 6 && form-good b bs)
-unfolding few-good
-few-form b n bs e = ap (λ (t : Bool). leb (sheet-w bs) 6 && t) (part-form b n bs e)
+middle-yes : (a c : Bool) → (a && c) ≡ ((a && true) && c)
+middle-yes true c = refl
+middle-yes false c = refl
 
-module _ (n : ℕ) (bs : List ℕ) where
-  pub few-winners : few-good n bs ≡ true → sheet-w bs ≤ 6
-  unfolding few-good
-  few-winners h = leb-true (sheet-w bs) 6 (and-eq-true-iff (leb (sheet-w bs) 6) (part-good n bs) .0 h .0)
+module _ (b : Book) (n : ℕ) (bs : List ℕ) (e : clients b ≡ min n 6) where
+  pub many-refused : min n 6 < sheet-w bs → false ≡ form-good b bs
+  unfolding form-good
+  many-refused l = rw (lt-leb (sheet-w bs) (clients b) (omega arith)) (middle-no (leb 4 (length bs) && eqb (byte 0 bs) 1) _)
 
-  -- more than six winners are refused, and with at most six the rest decides
-  pub many-refused : 6 < sheet-w bs → few-good n bs ≡ false
-  unfolding few-good
-  many-refused l = ap (λ (t : Bool). t && part-good n bs) (lt-leb (sheet-w bs) 6 l)
-
-  pub few-decided : sheet-w bs ≤ 6 → few-good n bs ≡ part-good n bs
-  unfolding few-good
-  few-decided l = ap (λ (t : Bool). t && part-good n bs) (le-leb (sheet-w bs) 6 l)
+  pub few-decided : sheet-w bs ≤ min n 6 → ((leb 4 (length bs) && eqb (byte 0 bs) 1)
+      && (eqb (sheet-long bs) (sheet-formula (sheet-w bs)) && eqb (length bs) (sheet-formula (sheet-w bs)))) ≡ form-good b bs
+  unfolding form-good
+  few-decided l = rw (le-leb (sheet-w bs) (clients b) (omega arith)) (middle-yes (leb 4 (length bs) && eqb (byte 0 bs) 1) _)

@@ -1,15 +1,17 @@
 -- The laws that the proofs of this crate cite.
-pub mod Judging
-pub mod Chaining
-pub mod Reading
-pub mod Limits
-pub mod Choices
-pub mod Parts
-pub mod Example
-pub mod Filled
+pub mod NumberedTests
+-- Reading a sheet.
+pub mod ReadColumns
 pub mod Formed
+pub mod BidNumbers
 pub mod Numbers
 pub mod Outcomes
-pub mod Padded
-pub mod Uses
-pub mod Winners
+pub mod Example
+-- The chain of questions, and the answer.
+pub mod WinnersPay
+pub mod Chaining
+pub mod Weighing
+pub mod Limits
+pub mod Judging
+pub mod Parts
+pub mod Readings

@@ -1,61 +1,87 @@
--- What the part of the input after the book gives: a refusal by question 6, or a sheet that has been read. Cited by the proof of
--- `judge_sheet`. Assumes nothing.
-use mathlib.Core.Path.{_≡_, sym, ap, subst, _∙_}
-use mathlib.Core.Bool.{true, false, cond}
+-- What the bytes of a sheet give over a book that is a value: a refusal by question 6, or the sheet that arrays hold, and the answer to it.
+-- Cited by the proof of `answer_over`. Assumes nothing.
+use mathlib.Core.Path.{_≡_, sym, ap, fun-ext, _∙_}
+use mathlib.Core.Bool.{true, cond}
 use mathlib.Core.List.{List}
-use mathlib.Core.Logic.{⊎-elim}
-use Prim.Native.Nat.{ℕ, _-_, _≤_, _<_}
-use native.Mathlib.Nat.{le-trans, le-of-eq}
+use Prim.Native.Nat.{ℕ, _*_, _-_, _≤_, _<_}
+use native.Mathlib.Decide.{decLt}
 use native.Mathlib.Omega.{arith}
-use lib.ListN.{length, take, drop}
-use Rattle.pricing.specs.Certificate.{Certificate}
-use Rattle.pricing.specs.Ranges.{in-range}
-use Rattle.book.specs.Layout.{book-long, n-of}
-use Rattle.book.specs.Questions.{book-refusal}
-use Rattle.book.proofs.Places.{clients-count}
-use Rattle.book.proofs.Soundness.{sound}
-use Rattle.market.proofs.Bools.{either}
+use borrow.Author.Tests.{le-ltb}
+use lib.Dec.{ltb}
+use lib.ListN.{take}
+use lib.Seq.{getD-take}
+use Rattle.sets.specs.Tables.{tabulate}
+use Rattle.market.specs.Market.{at}
+use Rattle.market.proofs.Bools.{cond-false}
+use Rattle.book.specs.Book.{Book}
+use Rattle.book.specs.Value.{book-of, sound-number}
+use Rattle.book.specs.declared.value.Book.{Book as Arrays}
+use Rattle.book.proofs.Held.{held-clients}
+use Rattle.winners.specs.Combinations.{amount-of}
+use Rattle.certificate.specs.Figures.{certificate}
+use Rattle.certificate.specs.InRange.{Ranges}
 use Rattle.certificate.specs.declared.ranges.Figures.{Figures}
 use Rattle.certificate.proofs.InRange.{in-range-iff}
-use Rattle.judge.specs.declared.sheet.Sheet.{Sheet}
-use Rattle.judge.specs.Reading.{Sheet-read}
-use Rattle.judge.proofs.Uses.{read-number, slice-rest}
-use Rattle.demands.specs.Input.{book, sheet, sheet-part}
+use Rattle.demands.specs.Sheet.{sheet-in}
+use Rattle.demands.specs.Call.{call-of}
+use Rattle.demands.specs.Winners.{win}
 use Rattle.demands.specs.Questions.{form-good, judged}
-use Rattle.judge.specs.ReadSheet.{Read}
-use Rattle.judge.proofs.Chaining.{judged-range}
-use Rattle.judge.proofs.Choices.{answered-no, answered-yes}
+use Rattle.demands.specs.Answer.{price, acceptance, refusal, answer-of}
+use Rattle.demands.proofs.Passed.{judged-passed}
+use Rattle.judge.specs.Acceptance.{paid, acceptance-with}
+use Rattle.judge.specs.Reading.{sheet-held, Sheet-read}
+use Rattle.judge.specs.declared.sheet.SheetReading.{SheetReading}
+use Rattle.judge.proofs.Judging.{refused-form, refused-sheet, accepted-sheet}
+use Rattle.judge.proofs.NumberedTests.{answered-no, answered-yes}
 
-module _ (bs : List ℕ) (from n : ℕ) (s : Sheet) (z : book-refusal bs ≡ 0) (ef : from ≡ book-long bs) (en : n ≡ n-of bs)
-    (read : Sheet-read (take (length bs - from) (drop from bs)) n s) where
-  -- the part is what follows the book
-  part-is : take (length bs - from) (drop from bs) ≡ sheet-part bs
-  unfolding sheet-part
-  part-is = slice-rest from bs ∙ ap (λ (k : ℕ). drop k bs) ef
+module _ (b : Book) (bids : List ℕ) (f : Figures) where
+  -- what is paid for bids that are held is the sheet's price
+  paid-price : (k : ℕ) → paid b bids (f .w) (f .q) (at (f .x)) k ≡ price b (sheet-held bids f) k
+  unfolding paid price win
+  paid-price k =
+      let w = f .w in
+      let due : ℕ → ℕ = λ i. f .q * amount-of b i - at (f .x) k in
+      elim (decLt k w) [
+        | yes l ↦ ap (λ (i : ℕ). cond (ltb k w) (due i) 0) (sym (getD-take w bids k 0 l))
+        | no l ↦
+            let past = le-ltb k w (omega arith) in
+            cond-false (ltb k w) (due (at bids k)) 0 past ∙ sym (cond-false (ltb k w) (due (at (take w bids) k)) 0 past)
+      ]
 
-  read-part : Sheet-read (sheet-part bs) n s
-  read-part = subst (λ (part : List ℕ). Sheet-read part n s) part-is read
+  -- so to accept what is held is to accept the sheet
+  held-accepted : acceptance-with b bids (f .w) (f .q) (at (f .x)) ≡ acceptance b (sheet-held bids f)
+  unfolding acceptance-with acceptance
+  held-accepted = ap (λ (p : ℕ → ℕ). record { number = 0; w = f .w; q = f .q; prices = tabulate 6 p }) (fun-ext paid-price)
 
-  form-number : s .number ≡ cond (form-good (book bs) (sheet-part bs)) 0 6
-  form-number = read-number (sheet-part bs) n s read-part (book bs) (clients-count bs ∙ sym en) (le-trans (le-of-eq en) (sound bs z .n-high))
+  -- what is accepted is in range
+  pub held-ranges : (n : ℕ) → n ≡ judged b (sheet-held bids f) → n ≤ 0 → Ranges (certificate f)
+  held-ranges n e l = in-range-iff (certificate f) .0 (judged-passed b (sheet-held bids f) (omega arith) .ranges)
 
-  pub form-no : 0 < s .number → form-good (book bs) (sheet-part bs) ≡ false
-  form-no l = answered-no (form-good (book bs) (sheet-part bs)) 6 (s .number) form-number l .0
+module _ (v : Arrays) (part : List ℕ) (sound : sound-number v ≡ 0) (s : SheetReading) (read : Sheet-read part (v .n) s) where
+  form-number : s .number ≡ cond (form-good (book-of v) part) 0 6
+  form-number = read .numbered (book-of v) (held-clients v)
 
-  pub form-yes : s .number ≤ 0 → Read bs (s .bids) (s .figures)
-  form-yes l =
-      let good : s .number ≡ 0 = omega arith in
-      record {
-        refusal = z;
-        form = answered-yes (form-good (book bs) (sheet-part bs)) 6 (s .number) (omega arith) form-number l;
-        winners = read-part .bids good;
-        numbers = read-part .numbers good;
-      }
+  pub form-no : 0 < s .number → refusal (s .number) ≡ answer-of (call-of v part)
+  form-no l =
+      let q = answered-no (form-good (book-of v) part) 6 (s .number) form-number l in
+      ap refusal (q .1) ∙ refused-form (call-of v part) sound (q .0)
 
--- an accepted sheet's q is in range
-pub accepted-q : (bs bids : List ℕ) (f : Figures) (n : ℕ) → Read bs bids f → n ≡ judged (book bs) (sheet bs) → n ≤ 0 → f .q ≤ 10000
-accepted-q bs bids f n r e l =
-    ⊎-elim
-    (λ (t : in-range (sheet bs .numbers) ≡ true). le-trans (le-of-eq (ap (λ (c : Certificate). c .q) (r .numbers))) (in-range-iff (sheet bs .numbers) .0 t .q-most))
-    (λ (t : in-range (sheet bs .numbers) ≡ false). absurd (omega (arith, judged-range (book bs) (sheet bs) t)))
-    (either (in-range (sheet bs .numbers)))
+  module _ (z : s .number ≤ 0) (n : ℕ) (e : n ≡ judged (book-of v) (sheet-held (s .bids) (s .figures))) where
+    form-yes : form-good (book-of v) part ≡ true
+    form-yes = answered-yes (form-good (book-of v) part) 6 (s .number) (omega arith) form-number z
+
+    held : sheet-held (s .bids) (s .figures) ≡ sheet-in part
+    held = read .held (omega arith)
+
+    judged-part : n ≡ judged (book-of v) (sheet-in part)
+    judged-part = e ∙ ap (judged (book-of v)) held
+
+    pub sheet-no : 0 < n → refusal n ≡ answer-of (call-of v part)
+    sheet-no = refused-sheet (call-of v part) sound form-yes n judged-part
+
+    pub sheet-yes : n ≤ 0
+        → acceptance-with (book-of v) (s .bids) (s .figures .w) (s .figures .q) (at (s .figures .x)) ≡ answer-of (call-of v part)
+    sheet-yes l =
+        held-accepted (book-of v) (s .bids) (s .figures)
+        ∙ ap (acceptance (book-of v)) held
+        ∙ accepted-sheet (call-of v part) sound form-yes n judged-part l

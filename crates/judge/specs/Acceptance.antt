@@ -1,5 +1,5 @@
--- The code's answer read as the definitions' one, and the answer that accepts bids with their discounts, whether or not a sheet has them
--- (FORMAT, "Answers"). Cited by the contracts of this crate and by that of judging. Assumes nothing: these are definitions.
+-- What the private functions that make an answer give: the answer that accepts bids with their discounts, whether or not a sheet has them.
+-- Assumes nothing: these are definitions.
 use mathlib.Core.Bool.{cond}
 use mathlib.Core.List.{List}
 use Prim.Native.Nat.{ℕ, _*_, _-_}
@@ -8,11 +8,6 @@ use Rattle.sets.specs.Tables.{tabulate}
 use Rattle.book.specs.Book.{Book}
 use Rattle.demands.specs.Winners.{win}
 use Rattle.demands.specs.Answer.{Answer}
-use Rattle.judge.specs.declared.prices.Prices.{Prices}
-
--- the code's answer as the definitions' one
-abbrev pub answer-in : Prices → Answer
-answer-in r = record { number = r .number; w = r .w; q = r .q; prices = r .prices }
 
 -- what the winner at place k pays over q: q times the amount of its bid less its discount, which stops at zero; from place w on nothing
 unfoldable pub paid : Book → (bids : List ℕ) → (w q : ℕ) → (x : ℕ → ℕ) → (k : ℕ) → ℕ

@@ -4,8 +4,7 @@ use mathlib.Core.Path.{_≡_}
 use mathlib.Core.Bool.{Bool, cond}
 use mathlib.Core.List.{List}
 use Prim.Native.Nat.{ℕ, _+_, _≤_}
-use lib.ListN.{length}
-use Rattle.book.specs.Bytes.{byte, field}
+use Rattle.book.specs.Bytes.{field}
 use Rattle.certificate.specs.Figures.{at}
 use Rattle.demands.specs.Sheet.{winner-place, set-place, of-winner, of-set}
 
@@ -17,11 +16,6 @@ width wide = cond wide 8 4
 pub record Column (w behind : ℕ) : Type 0 where
   pub few : w ≤ 6
   pub near : behind ≤ 20
-
--- the bid numbers of w winners
-pub record Bids-read (w : ℕ) (bs xs : List ℕ) : Type 0 where
-  pub long : length xs ≡ 6
-  pub reads : at xs ≡ of-winner w (λ j. byte (4 + j) bs)
 
 -- one number of each of w winners, in n bytes, so many bytes behind where the winner's numbers begin
 pub record Winners-read (w behind n : ℕ) (bs xs : List ℕ) : Type 0 where

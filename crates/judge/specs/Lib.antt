@@ -1,7 +1,8 @@
+-- The definitions that the contracts cite. Assumes nothing.
+-- What a reader must believe: the contracts of the public functions.
 pub mod Judgement
-pub mod Chain
-pub mod ReadSheet
-pub mod Acceptance
-pub mod Columns
-pub mod FormTest
 pub mod Reading
+-- What only private contracts cite.
+pub mod Columns
+pub mod Chain
+pub mod Acceptance

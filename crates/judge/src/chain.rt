@@ -1,23 +1,28 @@
-// Questions 7 to 15 in their order, put to a sheet that has been read: the number of the first that is answered no.
+// Questions 6 to 15 in their order, put to the bytes of a sheet over a sound book that is a value: the first that is answered no refuses.
 use crate::prices;
+use crate::prices::Prices;
+use crate::sheet;
+use book::Book;
 use certificate::discounts;
 use certificate::ranges;
 use certificate::ranges::Figures;
-use winners::choice;
 ghost use mathlib.Core.Path.{_≡_};
-ghost use Rattle.demands.specs.Input.{book, sheet};
+ghost use Rattle.book.specs.Value.{book-of, sound-number};
+ghost use Rattle.demands.specs.Answer.{answer-of};
+ghost use Rattle.demands.specs.Call.{call-of};
 ghost use Rattle.demands.specs.Questions.{judged};
-ghost use Rattle.judge.specs.ReadSheet.{Read, Bounded};
-ghost use Rattle.judge.specs.Chain.{certificate-judged};
+ghost use Rattle.judge.specs.Chain.{Weighed-sheet, certificate-judged};
+ghost use Rattle.judge.specs.Judgement.{answer-in};
+ghost use Rattle.judge.specs.Reading.{sheet-held};
 
 // Questions 10 to 15, given σ of every set of winners.
-fn certificate_number(input: &[u8], bids: [u8; 6], figures: Figures, sigma: [u64; 64]) -> u8
-    requires { ⌜ Bounded (now input) bids figures sigma ⌝ }
-    ensures { λ r. ⌜ r ≡ certificate-judged (book (now (input .entry))) (sheet (now (input .entry))) ⌝ }
+fn certificate_number(book: Book, bids: [u8; 6], figures: Figures, sigma: [u64; 64]) -> u8
+    requires { ⌜ Weighed-sheet book bids figures sigma ⌝ }
+    ensures { λ r. ⌜ r ≡ certificate-judged (book-of book) (sheet-held bids figures) ⌝ }
 {
     let w = figures.w;
     let x = figures.x;
-    let rho = prices::reserves_of(input, bids, w as usize);
+    let rho = prices::reserves_of(book, bids, w as usize);
     let ten = discounts::reserve(w, figures.q, x, rho);
     if 0 < ten {
         return ten;
@@ -25,24 +30,38 @@ fn certificate_number(input: &[u8], bids: [u8; 6], figures: Figures, sigma: [u64
     certificate::balances(figures, sigma, rho)
 }
 
-pub(crate) fn number_of(input: &[u8], bids: [u8; 6], figures: Figures) -> u8
-    requires { ⌜ Read (now input) bids figures ⌝ }
-    ensures { λ r. ⌜ r ≡ judged (book (now (input .entry))) (sheet (now (input .entry))) ⌝ }
+// Questions 7 to 15, for what was read of a sheet.
+fn number_of(book: Book, bids: [u8; 6], figures: Figures) -> u8
+    requires { ⌜ sound-number book ≡ 0 ⌝ }
+    ensures { λ r. ⌜ r ≡ judged (book-of book) (sheet-held bids figures) ⌝ }
 {
     let seven = ranges::ranges(figures);
     if 0 < seven {
         return seven;
     }
-    let w = figures.w as usize;
-    let choice = choice::combination(input, bids, w);
-    if 0 < choice.number {
-        return 8;
+    let weighed = winners::weigh(book, bids, figures.w as usize);
+    if 0 < weighed.number {
+        return weighed.number as u8;
     }
-    let clients = choice.clients;
-    let table = winners::surpluses(input, clients, w);
-    if choice.value != table.value {
-        return 9;
+    let sigma = weighed.sigma;
+    certificate_number(book, bids, figures, sigma)
+}
+
+// Questions 6 to 15, and the answer.
+pub(crate) fn answer_over(book: Book, part: &[u8]) -> Prices
+    requires { ⌜ sound-number book ≡ 0 ⌝ }
+    ensures { λ r. ⌜ answer-in r ≡ answer-of (call-of book (now (part .entry))) ⌝ }
+{
+    let sheet = sheet::read(part, book.n as usize);
+    if 0 < sheet.number {
+        return prices::refused(sheet.number);
     }
-    let sigma = table.sigma;
-    certificate_number(input, bids, figures, sigma)
+    let bids = sheet.bids;
+    let figures = sheet.figures;
+    let later = number_of(book, bids, figures);
+    if 0 < later {
+        return prices::refused(later);
+    }
+    let x = figures.x;
+    prices::accepted(book, bids, figures.w as u32, figures.q as u32, x)
 }

@@ -1,10 +1,8 @@
 // One number of each winner or of each set, as an array that is filled up with zeros.
-use crate::form;
 use book::bytes;
 ghost use mathlib.Core.Path.{_≡_};
-ghost use Prim.Native.Nat.{_+_, _≤_};
 ghost use Rattle.book.specs.Bytes.{field};
-ghost use Rattle.judge.specs.Columns.{width, Column, Bids-read, Winners-read, Sets-read};
+ghost use Rattle.judge.specs.Columns.{width, Column, Winners-read, Sets-read};
 
 // The number at a place: in eight bytes where it is wide, else in four.
 pub(crate) fn number_at(part: &[u8], place: usize, wide: bool) -> u64
@@ -17,21 +15,7 @@ pub(crate) fn number_at(part: &[u8], place: usize, wide: bool) -> u64
     }
 }
 
-// The bid numbers of w winners.
-pub(crate) fn bids_of(part: &[u8], w: usize) -> [u8; 6]
-    requires { ⌜ w ≤ 6 ⌝ }
-    ensures { λ r. ⌜ Bids-read w (now (part .entry)) r ⌝ }
-{
-    let mut bids = [0; 6];
-    let mut j = 0;
-    while j < w {
-        bids[j] = bytes::byte_at(part, 4 + j);
-        j += 1;
-    }
-    bids
-}
-
-// One number of each of w winners: where its numbers begin, or so many bytes behind.
+// One number of each of w winners: where its numbers begin, or so many bytes behind. The first winner's begin at 12 + w, 28 bytes each.
 pub(crate) fn winners_column(part: &[u8], w: usize, behind: usize, wide: bool) -> [u64; 6]
     requires { ⌜ Column w behind ⌝ }
     ensures { λ r. ⌜ Winners-read w behind (width wide) (now (part .entry)) r ⌝ }
@@ -45,12 +29,13 @@ pub(crate) fn winners_column(part: &[u8], w: usize, behind: usize, wide: bool) -
     xs
 }
 
-// One number of each non-empty set of w winners: where its numbers begin, or so many bytes behind.
+// One number of each non-empty set of w winners: where its numbers begin, or so many bytes behind. The first set's begin at 20 + 29 w, 12
+// bytes each.
 pub(crate) fn sets_column(part: &[u8], w: usize, behind: usize, wide: bool) -> [u64; 64]
     requires { ⌜ Column w behind ⌝ }
     ensures { λ r. ⌜ Sets-read w behind (width wide) (now (part .entry)) r ⌝ }
 {
-    let end = form::sets_of(w);
+    let end = numbers::sets_end(w);
     let mut xs = [0; 64];
     let mut set = 1;
     while set < end {

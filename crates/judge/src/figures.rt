@@ -1,4 +1,5 @@
-// The figures of a sheet.
+// The figures of a sheet. Behind version, length, w and w bid numbers stand q and s, four bytes each; 28 bytes of each winner, X, Z, R and
+// T; G in eight; 12 bytes of each non-empty set, Y and U. Numbers have eight bytes, but for q, s, Z and Y, which have four.
 use crate::columns::number_at;
 use crate::columns::sets_column;
 use crate::columns::winners_column;
@@ -8,6 +9,19 @@ ghost use Prim.Native.Nat.{_≤_};
 ghost use Rattle.certificate.specs.Figures.{certificate};
 ghost use Rattle.demands.specs.Sheet.{numbers-in};
 ghost use Rattle.judge.specs.Reading.{zero-figures};
+
+// How far behind a winner's first byte, or a set's, each number begins.
+const X: usize = 0;
+
+const Z: usize = 8;
+
+const R: usize = 12;
+
+const T: usize = 20;
+
+const Y: usize = 0;
+
+const U: usize = 4;
 
 // All zero.
 pub(crate) fn no_figures() -> Figures
@@ -34,23 +48,23 @@ pub(crate) fn figures_of(part: &[u8], w: usize) -> Figures
 {
     let q = number_at(part, 4 + w, false);
     let s = number_at(part, 8 + w, false);
-    let x = winners_column(part, w, 0, true);
-    let z = winners_column(part, w, 8, false);
-    let r = winners_column(part, w, 12, true);
-    let t = winners_column(part, w, 20, true);
+    let x = winners_column(part, w, X, true);
+    let z = winners_column(part, w, Z, false);
+    let r = winners_column(part, w, R, true);
+    let t = winners_column(part, w, T, true);
     let g = number_at(part, 12 + 29 * w, true);
-    let y = sets_column(part, w, 0, false);
-    let u = sets_column(part, w, 4, true);
+    let y = sets_column(part, w, Y, false);
+    let u = sets_column(part, w, U, true);
     Figures {
         w: w as u64,
-        q: q,
-        s: s,
-        g: g,
-        x: x,
-        z: z,
-        r: r,
-        t: t,
-        y: y,
-        u: u,
+        q,
+        s,
+        g,
+        x,
+        z,
+        r,
+        t,
+        y,
+        u,
     }
 }

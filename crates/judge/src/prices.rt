@@ -1,17 +1,15 @@
-// Layer 3: what winners pay, and what an answer is.
-//
-// What a client may cite: `reserves_of`, ρ of each winner; `refused` and `accepted`, the two kinds of answer. Each takes anything, asks
-// nothing of its caller, and its contract gives every field as a value (specs/Answers.antt).
-use book::entries;
+// What winners pay, and the two kinds of answer: private to this crate, but for the answer's type.
+use book::Book;
 ghost use mathlib.Core.Path.{_≡_};
 ghost use Prim.Native.Nat.{ℕ};
 ghost use lib.ListN.{getD, take};
-ghost use Rattle.book.specs.Layout.{book-in};
+ghost use Rattle.book.specs.Value.{book-of};
 ghost use Rattle.market.specs.Market.{at};
 ghost use Rattle.sets.specs.Tables.{tabulate};
 ghost use Rattle.demands.specs.Winners.{rho};
 ghost use Rattle.demands.specs.Answer.{refusal};
-ghost use Rattle.judge.specs.Acceptance.{answer-in, paid, acceptance-with};
+ghost use Rattle.judge.specs.Acceptance.{paid, acceptance-with};
+ghost use Rattle.judge.specs.Judgement.{answer-in};
 
 // The answer to an input: 0 and the prices over q of w winners, or the number of the first question that is answered no, and zeros.
 #[repr(C)]
@@ -23,23 +21,23 @@ pub struct Prices {
 }
 
 // ρ of each winner, 0 past the last.
-pub fn reserves_of(input: &[u8], bids: [u8; 6], w: usize) -> [u64; 6]
-    ensures { λ r. ⌜ ((j : ℕ) → getD r j 0 ≡ rho (book-in (now (input .entry))) (take w bids) j) ⌝ }
+pub(crate) fn reserves_of(book: Book, bids: [u8; 6], w: usize) -> [u64; 6]
+    ensures { λ r. ⌜ ((j : ℕ) → getD r j 0 ≡ rho (book-of book) (take w bids) j) ⌝ }
 {
     let few = numbers::smaller(w, 6);
     let mut rho = [0u64; 6];
     let mut j: usize = 0;
     while j < few {
         let bid = bids[j] as usize;
-        let amount = entries::amount(input, bid) as u64;
-        rho[j] = numbers::excess(amount, entries::reserves(input, bid));
+        let amount = book::amount_of(book, bid) as u64;
+        rho[j] = numbers::excess(amount, book::reserves_of(book, bid));
         j += 1;
     }
     rho
 }
 
 // A refusal has its number and zeros.
-pub fn refused(number: u8) -> Prices
+pub(crate) fn refused(number: u8) -> Prices
     ensures { λ r. ⌜ answer-in r ≡ refusal number ⌝ }
 {
     Prices {
@@ -51,14 +49,14 @@ pub fn refused(number: u8) -> Prices
 }
 
 // What each winner pays over q, 0 past the last.
-fn prices_of(input: &[u8], bids: [u8; 6], w: usize, q: u32, x: [u64; 6]) -> [u64; 6]
-    ensures { λ r. ⌜ r ≡ tabulate 6 (paid (book-in (now (input .entry))) bids w q (at x)) ⌝ }
+fn prices_of(book: Book, bids: [u8; 6], w: usize, q: u32, x: [u64; 6]) -> [u64; 6]
+    ensures { λ r. ⌜ r ≡ tabulate 6 (paid (book-of book) bids w q (at x)) ⌝ }
 {
     let few = numbers::smaller(w, 6);
     let mut prices = [0u64; 6];
     let mut k: usize = 0;
     while k < few {
-        let amount = entries::amount(input, bids[k] as usize) as u64;
+        let amount = book::amount_of(book, bids[k] as usize) as u64;
         prices[k] = numbers::excess(q as u64 * amount, x[k]);
         k += 1;
     }
@@ -66,10 +64,10 @@ fn prices_of(input: &[u8], bids: [u8; 6], w: usize, q: u32, x: [u64; 6]) -> [u64
 }
 
 // An acceptance has w, q, number 0 and the prices.
-pub fn accepted(input: &[u8], bids: [u8; 6], w: u32, q: u32, x: [u64; 6]) -> Prices
-    ensures { λ r. ⌜ answer-in r ≡ acceptance-with (book-in (now (input .entry))) bids w q (at x) ⌝ }
+pub(crate) fn accepted(book: Book, bids: [u8; 6], w: u32, q: u32, x: [u64; 6]) -> Prices
+    ensures { λ r. ⌜ answer-in r ≡ acceptance-with (book-of book) bids w q (at x) ⌝ }
 {
-    let prices = prices_of(input, bids, w as usize, q, x);
+    let prices = prices_of(book, bids, w as usize, q, x);
     Prices {
         number: 0,
         w,

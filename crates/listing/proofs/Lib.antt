@@ -1,7 +1,6 @@
 -- The laws of the printed text. Assumes nothing.
 -- How it is pushed, how long it is, and that it is the one.
 pub mod Pushing
-pub mod Bids
 pub mod Limits
 pub mod Listed
 -- Reading: inputs cut.

@@ -1,3 +1,2 @@
 -- The definitions that the contracts cite. Assumes nothing.
 pub mod Listing
-pub mod Needs

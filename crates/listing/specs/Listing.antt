@@ -7,8 +7,8 @@ use Prim.Native.Nat.{ℕ, zero, suc, _≤_}
 use lib.Dec.{eqb}
 use lib.ListN.{length}
 use Rattle.market.specs.Market.{at}
-use Rattle.book.specs.Book.{client-of}
-use Rattle.demands.specs.Input.{book, sheet, input-refusal}
+use Rattle.book.specs.Book.{Book, client-of}
+use Rattle.demands.specs.Call.{Call, call-in, sheet, call-refusal}
 use Rattle.demands.specs.Answer.{answer-of}
 use Rattle.text.specs.declared.Text.{Text}
 use Rattle.text.specs.Decimal.{decimal}
@@ -36,29 +36,31 @@ unfoldable pub lines : (n : ℕ) → (nth : ℕ → List ℕ) → List ℕ
 lines zero nth = []
 lines (suc n) nth = lines n nth ++ nth n
 
--- the line of winner k: its client, its bid number and its price numerator
-unfoldable pub winner-line : (input : List ℕ) → (k price : ℕ) → List ℕ
-winner-line bs k price = let bid = at (sheet bs .bids) k in line (decimal (client-of (book bs) bid)) (bid ∷ price ∷ [])
+-- the line of a winner: its client, its bid number and its price numerator
+unfoldable pub winner-line : Book → (bid price : ℕ) → List ℕ
+winner-line b i price = line (decimal (client-of b i)) (i ∷ price ∷ [])
 
--- the lines of w winners with these prices
-unfoldable pub winner-lines : (input : List ℕ) → (w : ℕ) → (prices : List ℕ) → List ℕ
-winner-lines bs w prices = lines w (λ k. winner-line bs k (at prices k))
+-- the lines of w winners with these bids and prices
+unfoldable pub winner-lines : Book → (bids : List ℕ) → (w : ℕ) → (prices : List ℕ) → List ℕ
+winner-lines b is w prices = lines w (λ k. winner-line b (at is k) (at prices k))
 
 -- after acceptance: the word with w and q, and the lines of the winners
-unfoldable pub accepted-text : (input : List ℕ) → List ℕ
-accepted-text bs = let r = answer-of bs in line accepted-word (r .w ∷ r .q ∷ []) ++ winner-lines bs (r .w) (r .prices)
+unfoldable pub accepted-text : Call → List ℕ
+accepted-text c =
+    let r = answer-of c in
+    line accepted-word (r .w ∷ r .q ∷ []) ++ winner-lines (c .book) (sheet c .bids) (r .w) (r .prices)
 
 -- after a refusal: the word with the number
 unfoldable pub refused-text : (number : ℕ) → List ℕ
 refused-text n = line refused-word (n ∷ [])
 
--- THE PRINTED TEXT
-unfoldable pub listing-of : (input : List ℕ) → List ℕ
-listing-of bs = let accepted = accepted-text bs in cond (eqb (input-refusal bs) 0) accepted (refused-text (input-refusal bs))
+-- THE PRINTED TEXT of a call
+unfoldable pub listing-of : Call → List ℕ
+listing-of c = let accepted = accepted-text c in cond (eqb (call-refusal c) 0) accepted (refused-text (call-refusal c))
 
 -- t is the printed text of an input, whole
 pub record Listed (input : List ℕ) (t : Text) : Type 0 where
   -- its bytes come first, all are counted, and the rest is zeros
-  pub text : t ≡ holding (listing-of input)
+  pub text : t ≡ holding (listing-of (call-in input))
   -- so none was left out
-  pub fits : length (listing-of input) ≤ 128
+  pub fits : length (listing-of (call-in input)) ≤ 128

@@ -4,15 +4,13 @@
 // byte by byte, and that it fits. A law in proofs/ says that an input cut past the longest call has the same text.
 ghost use mathlib.Core.Path.{_≡_};
 ghost use mathlib.Core.List.{_∷_, []};
-ghost use Rattle.market.specs.Market.{at};
-ghost use Rattle.demands.specs.Input.{sheet};
+ghost use Prim.Native.Nat.{_≤_};
+ghost use Rattle.book.specs.Value.{book-of};
 ghost use Rattle.text.specs.Decimal.{decimal};
 ghost use Rattle.text.specs.Text.{blank, pushes};
 ghost use Rattle.listing.specs.Listing.{accepted-word, ending, line, winner-line, winner-lines, refused-text, Listed};
-ghost use Rattle.listing.specs.Needs.{Winner, Winners};
-use book::bytes;
-use book::entries;
-use book::layout;
+use book::Book;
+use judge::sheet;
 use text::Text;
 
 // The bytes of a word behind `t`.
@@ -56,40 +54,29 @@ fn first_line(w: u64, q: u64) -> Text
     push_two(push_word(text::empty(), b"accepted"), w, q)
 }
 
-// The bid number of winner k.
-fn bid_of(input: &[u8], k: usize) -> u8
-    requires { ⌜ Winner (now input) k ⌝ }
-    ensures { λ r. ⌜ r ≡ at (sheet (now (input .entry)) .bids) k ⌝ }
+// The line of a winner, by its bid number, behind `t`.
+fn push_winner(book: Book, t: Text, bid: u8, price: u64) -> Text
+    ensures { λ r. ⌜ r ≡ pushes t (winner-line (book-of book) bid price) ⌝ }
 {
-    let from = layout::length(input) as usize;
-    bytes::byte_at(input, from + 4 + k)
-}
-
-// The line of winner k behind `t`.
-fn push_winner(input: &[u8], t: Text, k: usize, price: u64) -> Text
-    requires { ⌜ Winner (now input) k ⌝ }
-    ensures { λ r. ⌜ r ≡ pushes t (winner-line (now (input .entry)) k price) ⌝ }
-{
-    let bid = bid_of(input, k);
-    let client = entries::client(input, bid as usize);
+    let client = book::client_of(book, bid as usize);
     push_two(text::push_decimal(t, client as u64), bid as u64, price)
 }
 
 // The lines of w winners behind `t`.
-fn push_winners(input: &[u8], t: Text, w: usize, prices: [u64; 6]) -> Text
-    requires { ⌜ Winners (now input) w ⌝ }
-    ensures { λ r. ⌜ r ≡ pushes t (winner-lines (now (input .entry)) w prices) ⌝ }
+fn push_winners(book: Book, bids: [u8; 6], t: Text, w: usize, prices: [u64; 6]) -> Text
+    requires { ⌜ w ≤ 6 ⌝ }
+    ensures { λ r. ⌜ r ≡ pushes t (winner-lines (book-of book) bids w prices) ⌝ }
 {
     let mut out = t;
     let mut k: usize = 0;
     while k < w {
-        out = push_winner(input, out, k, prices[k]);
+        out = push_winner(book, out, bids[k], prices[k]);
         k += 1;
     }
     out
 }
 
-// The printed text of any input.
+// The printed text of any input. The book is read once more where there are winners to print.
 pub fn price_list(input: &[u8]) -> Text
     ensures { λ r. ⌜ Listed (now (input .entry)) r ⌝ }
 {
@@ -99,5 +86,9 @@ pub fn price_list(input: &[u8]) -> Text
         return refused(answer.number as u64);
     }
     let first = first_line(answer.w as u64, answer.q as u64);
-    push_winners(input, first, answer.w as usize, prices)
+    let reading = book::read(input);
+    let from = reading.length as usize;
+    let book = reading.book;
+    let bids = sheet::bids_of(&input[from..]);
+    push_winners(book, bids, first, answer.w as usize, prices)
 }

@@ -1,5 +1,5 @@
--- Cases on a test with the equation kept, and a choice made by a test. Cited by the other files of proofs/, and by the layers above. Assumes
--- nothing.
+-- Cases on a test with the equation kept, and a choice made by a test. Cited by the other files of proofs/, and by the layers above.
+-- Assumes nothing.
 use mathlib.Core.Path.{_≡_, refl}
 use mathlib.Core.Bool.{Bool, true, false, cond}
 use mathlib.Core.Logic.{_⊎_, inl, inr}

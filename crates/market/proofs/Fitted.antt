@@ -20,7 +20,8 @@ module _ (nobody : ℕ) (m : Market) (n : ℕ) (supply : List ℕ) (s : Supplied
   fits-alone : (is : List ℕ) → Combination m n supply is → (k : ℕ) → k < length is → fits (m .hours (at is k)) supply ≡ true
   fits-alone is c k l =
       let (first, last) = c .numbers k l in
-      fits-if (m .hours (at is k)) supply (s (at is k) first last) (λ kind h. le-trans (worth-one (λ i. at (m .hours i) kind) is k l) (c .within kind h))
+      fits-if (m .hours (at is k)) supply (s (at is k) first last)
+      (λ kind h. le-trans (worth-one (λ i. at (m .hours i) kind) is k l) (c .within kind h))
 
   into : (is : List ℕ) → Combination m n supply is → Combination (fitted nobody supply m) n supply is
   into is c = record {

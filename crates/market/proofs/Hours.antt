@@ -39,4 +39,5 @@ unfolding fits
 fits-if [] ls n h = refl
 fits-if (x ∷ hs) [] n h = absurd (not-suc-le-zero n)
 fits-if (x ∷ hs) (l ∷ ls) n h =
-    and-eq-true-iff (leb x l) (fits hs ls) .1 (le-leb x l (h 0 (omega arith)), fits-if hs ls (le-of-suc-le-suc n) (λ k b. h (suc k) (omega arith)))
+    and-eq-true-iff (leb x l) (fits hs ls) .1
+    (le-leb x l (h 0 (omega arith)), fits-if hs ls (le-of-suc-le-suc n) (λ k b. h (suc k) (omega arith)))

@@ -1,6 +1,7 @@
 -- Laws for a search that leaves out what cannot beat a value already found: a floor goes through one client's choice (choose-floor,
 -- best-floor), bids that are not open are passed by (choose-skip), and ceilings for the clients left bound the recursion
--- (best-ceiling). Clients with no bid add nothing (best-idle), and only the bids' weights count (best-weights). The layers above cite them. Assumes nothing.
+-- (best-ceiling). Clients with no bid add nothing (best-idle), and only the bids' weights count (best-weights). The layers above cite
+-- them. Assumes nothing.
 use mathlib.Core.Path.{_≡_, refl, sym, ap, ap₂, fun-ext, _∙_}
 use mathlib.Core.Bool.{true, false, _&&_, and-eq-true-iff}
 use mathlib.Core.List.{List}
@@ -36,7 +37,8 @@ module _ (m : Market) (wt : ℕ → ℕ) (c : ℕ) (ls : List ℕ) (on : List �
   -- the choice from a floor, and passing last
   pub choose-last-pass : (n q p : ℕ) → max (choose m wt n c ls q on) p ≡ max q (choose m wt n c ls p on)
   choose-last-pass n q p =
-      max-comm (choose m wt n c ls q on) p ∙ sym (choose-floor n p q) ∙ ap (λ (x : ℕ). choose m wt n c ls x on) (max-comm p q) ∙ choose-floor n q p
+      max-comm (choose m wt n c ls q on) p ∙ sym (choose-floor n p q)
+      ∙ ap (λ (x : ℕ). choose m wt n c ls x on) (max-comm p q) ∙ choose-floor n q p
 
   -- bids that are not open change nothing
   pub choose-skip : (n j p : ℕ) → n ≤ j → ((i : ℕ) → n ≤ i → i < j → open-to m c ls (suc i) ≡ false)
@@ -46,10 +48,11 @@ module _ (m : Market) (wt : ℕ → ℕ) (c : ℕ) (ls : List ℕ) (on : List �
   choose-skip n (suc j) p l h =
       ⊎-elim
       (λ (e : n ≡ suc j). rw e)
-      (λ (k : n < suc j). rw (h j (le-of-suc-le-suc k) (le-refl _)) (choose-skip n j p (le-of-suc-le-suc k) (λ i a b. h i a (omega arith))))
+      (λ (k : n < suc j). rw (h j (le-of-suc-le-suc k) (le-refl _))
+      (choose-skip n j p (le-of-suc-le-suc k) (λ i a b. h i a (omega arith))))
       (eq-or-lt-of-le l)
 
--- the recursion bounded by ceilings that do not rise, and of which each client's exceeds the next by the weight of each bid that may be taken
+-- the recursion bounded by ceilings that do not rise, each client's above the next by at least the weight of any bid that it may take
 pub best-ceiling : (m : Market) (wt tops : ℕ → ℕ) → ((c : ℕ) → 1 ≤ c → tops (suc c) ≤ tops c)
     → ((i : ℕ) → suc i ≤ m .bids → m .may (suc i) ≡ true → wt (suc i) + tops (suc (m .owner (suc i))) ≤ tops (m .owner (suc i)))
     → (k c : ℕ) (ls : List ℕ) → 1 ≤ c → best m wt k c ls ≤ tops c
@@ -94,4 +97,5 @@ module _ (m : Market) (wt wt′ : ℕ → ℕ) (h : (i : ℕ) → suc i ≤ m .b
   best-weights zero c ls = refl
   best-weights (suc k) c ls =
       choose-weights (m .bids) c ls _ _ (le-refl _)
-      ∙ ap₂ (λ (p : ℕ) (on : List ℕ → ℕ). choose m wt′ (m .bids) c ls p on) (best-weights k (suc c) ls) (fun-ext (λ rs. best-weights k (suc c) rs))
+      ∙ ap₂ (λ (p : ℕ) (on : List ℕ → ℕ). choose m wt′ (m .bids) c ls p on)
+      (best-weights k (suc c) ls) (fun-ext (λ rs. best-weights k (suc c) rs))

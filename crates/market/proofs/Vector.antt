@@ -28,7 +28,8 @@ module _ (m : Market) (c : ℕ) (ls : List ℕ) (i : ℕ) where
   pub open-if : m .owner i ≡ c → m .may i ≡ true → fits (m .hours i) ls ≡ true → open-to m c ls i ≡ true
   unfolding open-to
   open-if own may fit =
-      and-eq-true-iff (eqb (m .owner i) c) (m .may i && fits (m .hours i) ls) .1 (eq-eqb (m .owner i) c own, (and-eq-true-iff (m .may i) (fits (m .hours i) ls) .1 (may, fit)))
+      and-eq-true-iff (eqb (m .owner i) c) (m .may i && fits (m .hours i) ls) .1
+      (eq-eqb (m .owner i) c own, and-eq-true-iff (m .may i) (fits (m .hours i) ls) .1 (may, fit))
 
 -- a vector's worth is a sum over its entries
 pub taken-sum : (wt : ℕ → ℕ) (is : List ℕ) → taken wt is ≡ sum (length is) (λ j. entry wt (at is j))

@@ -1,20 +1,17 @@
 -- Questions 10 to 15 look at winners below w and at sets 1 to 2 ^ w - 1 alone: bounds that agree there are judged alike. Cited by the
 -- judging, whose bounds stand in arrays. Assumes nothing.
-use mathlib.Core.Path.{_≡_, refl, ap, ap₂}
+use mathlib.Core.Path.{_≡_, refl, ap₂}
 use mathlib.Core.Bool.{Bool, _&&_}
-use Prim.Native.Nat.{ℕ, zero, suc, _+_, _*_, _-_, _^_, _≤_, _<_}
+use Prim.Native.Nat.{ℕ, zero, suc, _*_, _-_, _^_, _≤_, _<_}
 use native.Mathlib.Omega.{arith}
-use lib.Dec.{leb, eqb}
-use lib.IntN.{ℤ, pos, _+ℤ_, _-ℤ_}
-use Rattle.sets.specs.Sums.{sum}
-use Rattle.sets.specs.Sets.{sum-in, holding, single}
+use Rattle.sets.specs.Sets.{single}
 use Rattle.sets.proofs.Sums.{sum-ext}
 use Rattle.sets.proofs.Sets.{over-ext}
 use Rattle.sets.proofs.Members.{single-positive, single-lt}
 use Rattle.pricing.specs.Certificate.{Certificate}
 use Rattle.pricing.specs.Questions.{Question, within-reserve, within-sets, cover, totals, stationary}
 use Rattle.pricing.specs.Questions.{slack-sets, slack-reserve, slack-zero}
-use Rattle.pricing.specs.Questions.{every, every-set, same-signed, slack, test}
+use Rattle.pricing.specs.Questions.{every, every-set, test}
 
 pub every-ext : (n : ℕ) (p r : ℕ → Bool) → ((k : ℕ) → k < n → p k ≡ r k) → every n p ≡ every n r
 unfolding every
@@ -25,19 +22,23 @@ pub every-set-ext : (w : ℕ) (p r : ℕ → Bool) → ((L : ℕ) → 1 ≤ L �
 unfolding every-set
 every-set-ext w p r h = every-ext (2 ^ w - 1) _ _ (λ i l. h (suc i) (omega arith) (omega arith))
 
-module _ (c : Certificate) (σ σ′ ρ ρ′ : ℕ → ℕ) (hσ : (L : ℕ) → 1 ≤ L → L < 2 ^ c .w → σ L ≡ σ′ L) (hρ : (j : ℕ) → j < c .w → ρ j ≡ ρ′ j) where
+module _ (c : Certificate) (σ σ′ ρ ρ′ : ℕ → ℕ)
+    (hσ : (L : ℕ) → 1 ≤ L → L < 2 ^ c .w → σ L ≡ σ′ L) (hρ : (j : ℕ) → j < c .w → ρ j ≡ ρ′ j) where
+  -- what the tests read of winner j
+  alone : (j : ℕ) → j < c .w → σ (single j) ≡ σ′ (single j)
+  alone j l = hσ (single j) (single-positive j) (single-lt (c .w) j l)
+
   pub test-agree : (question : Question) → test question c σ ρ ≡ test question c σ′ ρ′
   unfolding test
-  test-agree within-reserve = every-ext (c .w) _ _ (λ j l. ap (λ (z : ℕ). leb (c .X j) (c .q * z)) (hρ j l))
-  test-agree within-sets = every-set-ext (c .w) _ _ (λ L o l. ap (λ (z : ℕ). leb (sum-in (c .w) L (c .X)) (c .q * z)) (hσ L o l))
+  test-agree within-reserve = every-ext (c .w) _ _ (λ j l. simp (alone j l, hρ j l))
+  test-agree within-sets = every-set-ext (c .w) _ _ (λ L o l. simp (hσ L o l))
   test-agree cover = refl
   test-agree totals =
-      ap₂ (λ (a b : ℕ). eqb (c .q * (a + b)) (c .s * sum (c .w) (c .X)))
-      (over-ext (c .w) _ _ (λ L o l. ap (λ (z : ℕ). c .Y L * z) (hσ L o l)))
-      (sum-ext (c .w) _ _ (λ j l. ap (λ (z : ℕ). c .Z j * z) (hρ j l)))
-  test-agree stationary =
-      every-ext (c .w) _ _ (λ j l. ap (λ (z : ℕ). same-signed (pos (c .q * z) -ℤ pos (c .X j))
-      (c .G +ℤ pos (holding (c .w) j (c .U)) +ℤ pos (c .R j) -ℤ pos (c .T j))) (hσ (single j) (single-positive j) (single-lt (c .w) j l)))
-  test-agree slack-sets = every-set-ext (c .w) _ _ (λ L o l. ap (λ (z : ℕ). slack (c .U L) (sum-in (c .w) L (c .X)) (c .q * z)) (hσ L o l))
-  test-agree slack-reserve = every-ext (c .w) _ _ (λ j l. ap (λ (z : ℕ). slack (c .R j) (c .X j) (c .q * z)) (hρ j l))
+      rw (
+        over-ext (c .w) (λ L. c .Y L * σ L) (λ L. c .Y L * σ′ L) (λ L o l. simp (hσ L o l)),
+        sum-ext (c .w) (λ j. c .Z j * ρ j) (λ j. c .Z j * ρ′ j) (λ j l. simp (hρ j l)),
+      )
+  test-agree stationary = every-ext (c .w) _ _ (λ j l. simp (alone j l, hρ j l))
+  test-agree slack-sets = every-set-ext (c .w) _ _ (λ L o l. simp (hσ L o l))
+  test-agree slack-reserve = every-ext (c .w) _ _ (λ j l. simp (alone j l, hρ j l))
   test-agree slack-zero = refl

@@ -16,3 +16,4 @@ pub mod Questions
 pub mod Controls
 pub mod Example
 pub mod Agree
+pub mod Edges

@@ -1,15 +1,14 @@
--- The test of each question is true exactly where what it asks holds. Cited by the controls. Assumes nothing.
+-- The test of each question is true exactly where what it asks holds. Cited by the controls, and by whoever rests on a test's answer.
+-- Assumes nothing.
 use mathlib.Core.Path.{_≡_, refl, sym, ap, _∙_}
 use mathlib.Core.Bool.{Bool, true, false, _&&_, _||_, false≢true, and-eq-true-iff}
 use mathlib.Core.Logic.{_≢_, inl, inr, _↔_}
-use Prim.Native.Nat.{ℕ, zero, suc, _+_, _*_, _-_, _^_, _≤_, _<_}
+use Prim.Native.Nat.{ℕ, zero, suc, _-_, _^_, _≤_, _<_}
 use native.Mathlib.Nat.{le-refl, eq-or-lt-of-le, le-of-suc-le-suc, not-suc-le-zero}
 use native.Mathlib.Omega.{arith}
 use lib.Dec.{leb, eqb}
-use lib.IntN.{ℤ, pos, negsuc, _+ℤ_, _-ℤ_}
+use lib.IntN.{ℤ, pos, negsuc}
 use borrow.Author.Tests.{leb-true, le-leb, eqb-true, eqb-false, eq-eqb}
-use Rattle.sets.specs.Sums.{sum}
-use Rattle.sets.specs.Sets.{sum-in, over-sets, holding, single}
 use Rattle.pricing.specs.Certificate.{Certificate, Within-reserve, Within-sets}
 use Rattle.pricing.specs.Questions.{Question, within-reserve, within-sets, cover, totals, stationary}
 use Rattle.pricing.specs.Questions.{slack-sets, slack-reserve, slack-zero}
@@ -46,10 +45,10 @@ every-set-iff w p P h = (passes, λ f. t .1 (λ i l. f (suc i) (omega arith) (om
     passes e (suc i) o l = t .0 e i (omega arith)
 
 -- ONE NUMBER
-leb-iff : (a b : ℕ) → (leb a b ≡ true) ↔ (a ≤ b)
+pub leb-iff : (a b : ℕ) → (leb a b ≡ true) ↔ (a ≤ b)
 leb-iff a b = (leb-true a b, le-leb a b)
 
-eqb-iff : (a b : ℕ) → (eqb a b ≡ true) ↔ (a ≡ b)
+pub eqb-iff : (a b : ℕ) → (eqb a b ≡ true) ↔ (a ≡ b)
 eqb-iff a b = (eqb-true a b, eq-eqb a b)
 
 same-signed-eq : (m n : ℤ) → same-signed m n ≡ true → m ≡ n
@@ -78,13 +77,11 @@ slack-iff u a b = go (eqb u 0) refl
 -- THE QUESTIONS
 pub test-iff : (x : Question) (c : Certificate) (σ ρ : ℕ → ℕ) → (test x c σ ρ ≡ true) ↔ Asks x c σ ρ
 unfolding test Asks Within-reserve Within-sets
-test-iff within-reserve c σ ρ = every-iff (c .w) _ _ (λ j. leb-iff (c .X j) (c .q * ρ j))
-test-iff within-sets c σ ρ = every-set-iff (c .w) _ _ (λ L. leb-iff (sum-in (c .w) L (c .X)) (c .q * σ L))
-test-iff cover c σ ρ = every-iff (c .w) _ _ (λ j. leb-iff (c .s) (c .Z j + holding (c .w) j (c .Y)))
-test-iff totals c σ ρ = eqb-iff (c .q * (over-sets (c .w) (λ L. c .Y L * σ L) + sum (c .w) (λ j. c .Z j * ρ j))) (c .s * sum (c .w) (c .X))
-test-iff stationary c σ ρ =
-    every-iff (c .w) _ _ (λ j. same-signed-iff (pos (c .q * σ (single j)) -ℤ pos (c .X j))
-    (c .G +ℤ pos (holding (c .w) j (c .U)) +ℤ pos (c .R j) -ℤ pos (c .T j)))
-test-iff slack-sets c σ ρ = every-set-iff (c .w) _ _ (λ L. slack-iff (c .U L) (sum-in (c .w) L (c .X)) (c .q * σ L))
-test-iff slack-reserve c σ ρ = every-iff (c .w) _ _ (λ j. slack-iff (c .R j) (c .X j) (c .q * ρ j))
-test-iff slack-zero c σ ρ = every-iff (c .w) _ _ (λ j. slack-iff (c .T j) (c .X j) 0)
+test-iff within-reserve c σ ρ = every-iff (c .w) _ _ (λ j. leb-iff _ _)
+test-iff within-sets c σ ρ = every-set-iff (c .w) _ _ (λ L. leb-iff _ _)
+test-iff cover c σ ρ = every-iff (c .w) _ _ (λ j. leb-iff _ _)
+test-iff totals c σ ρ = eqb-iff _ _
+test-iff stationary c σ ρ = every-iff (c .w) _ _ (λ j. same-signed-iff _ _)
+test-iff slack-sets c σ ρ = every-set-iff (c .w) _ _ (λ L. slack-iff _ _ _)
+test-iff slack-reserve c σ ρ = every-iff (c .w) _ _ (λ j. slack-iff _ _ _)
+test-iff slack-zero c σ ρ = every-iff (c .w) _ _ (λ j. slack-iff _ _ _)

@@ -1,5 +1,5 @@
 -- Questions 10 to 15 on a certificate, each as a statement and as a test; question 15 has three parts. Cited by the controls, which show
--- that each is needed. Assumes nothing: these are definitions.
+-- that each is needed, and by the checks of a certificate. Assumes nothing: these are definitions.
 use mathlib.Core.Bool.{Bool, true, false, _&&_, _||_}
 use Prim.Native.Nat.{ℕ, zero, suc, _+_, _*_, _-_, _^_}
 use lib.Dec.{leb, eqb}

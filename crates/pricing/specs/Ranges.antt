@@ -12,7 +12,23 @@ use Rattle.pricing.specs.Questions.{every, every-set}
 unfoldable pub signed : (bits : ℕ) → ℤ
 signed g = cond (ltb g (2 ^ 63)) (pos g) (negℤ (pos (2 ^ 64 - g)))
 
--- whether each winner's number is at most b
+-- THE BOUNDS. Winners
+abbrev pub most-winners : ℕ
+most-winners = 6
+
+-- the denominators q and s, and the multipliers Y and Z of the sum
+abbrev pub most-scale : ℕ
+most-scale = 10000
+
+-- a discount X, over q
+abbrev pub most-discount : ℕ
+most-discount = 10 ^ 10
+
+-- the multipliers U, R, T and G of the distance, G without its sign
+abbrev pub most-multiplier : ℕ
+most-multiplier = 10 ^ 12
+
+-- THE TEST. Whether each winner's number is at most b
 unfoldable pub winners-at-most : (w b : ℕ) → (f : ℕ → ℕ) → Bool
 winners-at-most w b f = every w (λ j. leb (f j) b)
 
@@ -20,26 +36,27 @@ winners-at-most w b f = every w (λ j. leb (f j) b)
 unfoldable pub sets-at-most : (w b : ℕ) → (f : ℕ → ℕ) → Bool
 sets-at-most w b f = every-set w (λ L. leb (f L) b)
 
--- whether a denominator is from 1 to 10,000
+-- whether a denominator is from 1 to its bound
 abbrev pub scale-in-range : ℕ → Bool
-scale-in-range n = leb 1 n && leb n 10000
+scale-in-range n = leb 1 n && leb n most-scale
 
--- question 7 on the counts: at most six winners, and both denominators
+-- question 7 on the counts: of winners, and both denominators
 abbrev pub counts-in-range : (w q s : ℕ) → Bool
-counts-in-range w q s = leb w 6 && scale-in-range q && scale-in-range s
+counts-in-range w q s = leb w most-winners && scale-in-range q && scale-in-range s
 
 -- question 7 on the winners' numbers
 abbrev pub winners-in-range : (w : ℕ) → (X Z R T : ℕ → ℕ) → Bool
 winners-in-range w X Z R T =
-    winners-at-most w (10 ^ 10) X && winners-at-most w 10000 Z && winners-at-most w (10 ^ 12) R && winners-at-most w (10 ^ 12) T
+    winners-at-most w most-discount X && winners-at-most w most-scale Z && winners-at-most w most-multiplier R
+    && winners-at-most w most-multiplier T
 
 -- question 7 on the sets' numbers
 abbrev pub sets-in-range : (w : ℕ) → (Y U : ℕ → ℕ) → Bool
-sets-in-range w Y U = sets-at-most w 10000 Y && sets-at-most w (10 ^ 12) U
+sets-in-range w Y U = sets-at-most w most-scale Y && sets-at-most w most-multiplier U
 
--- question 7 on G: from -10^12 to 10^12
+-- question 7 on G
 unfoldable pub G-in-range : (G : ℤ) → Bool
-G-in-range G = leb (natAbs G) (10 ^ 12)
+G-in-range G = leb (natAbs G) most-multiplier
 
 -- question 7
 unfoldable pub in-range : Certificate → Bool

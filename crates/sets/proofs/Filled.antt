@@ -1,5 +1,4 @@
--- Arrays filled from the front, one entry a turn. Cited by the proofs of loops that fill an array, in crates/values, winners, choice, sheet and
--- prices. Assumes nothing.
+-- Arrays filled from the front, one entry a turn. Cited by the proofs of loops that fill an array, in the layers above. Assumes nothing.
 use mathlib.Core.Path.{_≡_, refl, sym, _∙_}
 use mathlib.Core.List.{List}
 use Prim.Native.Nat.{ℕ, zero, suc, _+_, _≤_, _<_}

@@ -101,11 +101,13 @@ has-set-of (suc w) p (suc k) l =
     ∙ has-set-of w (λ i. p (suc i)) k (le-of-suc-le-suc l)
 
 -- one member more
-pub set-of-add : (w x : ℕ) (p q : ℕ → Bool) → x < w → p x ≡ false → q x ≡ true → ((k : ℕ) → k ≢ x → q k ≡ p k) → set-of w p + 2 ^ x ≡ set-of w q
+pub set-of-add : (w x : ℕ) (p q : ℕ → Bool) → x < w → p x ≡ false → q x ≡ true → ((k : ℕ) → k ≢ x → q k ≡ p k) →
+    set-of w p + 2 ^ x ≡ set-of w q
 unfolding set-of
 set-of-add zero x p q l a b same = absurd (omega arith)
 set-of-add (suc w) zero p q l a b same =
-    let tails : set-of w (λ k. q (suc k)) ≡ set-of w (λ k. p (suc k)) = ap (λ (f : ℕ → Bool). set-of w f) (fun-ext (λ k. same (suc k) (λ e. omega arith))) in
+    let tails : set-of w (λ k. q (suc k)) ≡ set-of w (λ k. p (suc k))
+    = ap (λ (f : ℕ → Bool). set-of w f) (fun-ext (λ k. same (suc k) (λ e. omega arith))) in
     rw (a, b) (omega (arith, tails))
 set-of-add (suc w) (suc x) p q l a b same =
     let heads : q 0 ≡ p 0 = same 0 (λ e. omega arith) in

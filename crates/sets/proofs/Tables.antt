@@ -32,7 +32,8 @@ filled-entry n f i xs h L = elim (decLt L i) [
   | no l ↦ rw (le-ltb L i (omega arith)) (h .above L (omega arith))
 ]
 
-pub filled-table : (n : ℕ) (f : ℕ → ℕ) (count i : ℕ) (xs : List ℕ) → i ≡ min count n → Filled n f i xs → xs ≡ tabulate n (λ j. cond (ltb j count) (f j) 0)
+pub filled-table : (n : ℕ) (f : ℕ → ℕ) (count i : ℕ) (xs : List ℕ) → i ≡ min count n → Filled n f i xs →
+    xs ≡ tabulate n (λ j. cond (ltb j count) (f j) 0)
 filled-table n f count i xs e h =
     ext-getD 0 xs _ (h .long ∙ sym (tabulate-length n _))
     (λ j l. entry j (omega (arith, h .long)) ∙ sym (tabulate-at n (λ j. cond (ltb j count) (f j) 0) j 0 (omega (arith, h .long))))

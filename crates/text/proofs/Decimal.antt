@@ -10,7 +10,7 @@ use mathlib.Core.Path.{_≡_, refl, sym, ap, _∙_}
 use lib.Dec.{ltb}
 use lib.ListN.{length, getD, length-append, List·getD-append}
 use borrow.Author.Tests.{ltb-true, ltb-false, lt-ltb, le-ltb}
-use Rattle.text.specs.Decimal.{digits, decimal, worth}
+use Rattle.text.specs.Decimal.{ascii-zero, digits, decimal, worth}
 
 -- below ten or not
 sizes : (n : ℕ) → (n < 10) ⊎ (10 ≤ n)
@@ -21,14 +21,14 @@ sizes n = go (ltb n 10) refl
     go false e = inr (ltb-false n 10 e)
 
 -- with fuel left, a number below ten is one digit
-digits-small : (fuel n : ℕ) → n < 10 → digits (suc fuel) n ≡ (48 + n) ∷ []
+digits-one : (fuel n : ℕ) → n < 10 → digits (suc fuel) n ≡ (ascii-zero + n) ∷ []
 unfolding digits
-digits-small fuel n small = rw (lt-ltb n 10 small, digits)
+digits-one fuel n small = rw (lt-ltb n 10 small, digits)
 
 -- and any other is the digits of its tenth and then its last one
-digits-large : (fuel n : ℕ) → 10 ≤ n → digits (suc fuel) n ≡ digits fuel (n / 10) ++ (48 + n % 10) ∷ []
+digits-more : (fuel n : ℕ) → 10 ≤ n → digits (suc fuel) n ≡ digits fuel (n / 10) ++ (ascii-zero + n % 10) ∷ []
 unfolding digits
-digits-large fuel n large = rw (le-ltb n 10 large, digits)
+digits-more fuel n large = rw (le-ltb n 10 large, digits)
 
 -- any fuel above the number gives the same digits
 pub digits-enough : (fuel more n : ℕ) → n < fuel → n < more → digits fuel n ≡ digits more n
@@ -36,23 +36,23 @@ digits-enough zero more n h k = absurd (omega arith)
 digits-enough (suc fuel) zero n h k = absurd (omega arith)
 digits-enough (suc fuel) (suc more) n h k =
     ⊎-elim
-    (λ (small : n < 10). digits-small fuel n small ∙ sym (digits-small more n small))
-    (λ (large : 10 ≤ n). digits-large fuel n large
-    ∙ ap (λ (ds : List ℕ). ds ++ (48 + n % 10) ∷ []) (digits-enough fuel more (n / 10) (omega arith) (omega arith))
-    ∙ sym (digits-large more n large))
+    (λ (small : n < 10). digits-one fuel n small ∙ sym (digits-one more n small))
+    (λ (large : 10 ≤ n). digits-more fuel n large
+    ∙ ap (λ (ds : List ℕ). ds ++ (ascii-zero + n % 10) ∷ []) (digits-enough fuel more (n / 10) (omega arith) (omega arith))
+    ∙ sym (digits-more more n large))
     (sizes n)
 
 -- a number below ten is one digit
-pub decimal-small : (n : ℕ) → n < 10 → decimal n ≡ (48 + n) ∷ []
+pub decimal-one : (n : ℕ) → n < 10 → decimal n ≡ (ascii-zero + n) ∷ []
 unfolding decimal
-decimal-small n small = digits-small n n small
+decimal-one n small = digits-one n n small
 
 -- any other is the digits of its tenth and then its last one
-pub decimal-large : (n : ℕ) → 10 ≤ n → decimal n ≡ decimal (n / 10) ++ (48 + n % 10) ∷ []
+pub decimal-more : (n : ℕ) → 10 ≤ n → decimal n ≡ decimal (n / 10) ++ (ascii-zero + n % 10) ∷ []
 unfolding decimal
-decimal-large n large =
-    digits-large n n large
-    ∙ ap (λ (ds : List ℕ). ds ++ (48 + n % 10) ∷ []) (digits-enough n (suc (n / 10)) (n / 10) (omega arith) (omega arith))
+decimal-more n large =
+    digits-more n n large
+    ∙ ap (λ (ds : List ℕ). ds ++ (ascii-zero + n % 10) ∷ []) (digits-enough n (suc (n / 10)) (n / 10) (omega arith) (omega arith))
 
 -- what holds of the numbers below ten, and of any other where it holds of its tenth, holds of every number
 decimal-induction : (P : ℕ → Type 0) → ((n : ℕ) → n < 10 → P n) → ((n : ℕ) → 10 ≤ n → P (n / 10) → P n) → (n : ℕ) → P n
@@ -66,17 +66,17 @@ decimal-induction P small large n = go (suc n) n (omega arith)
 pub decimal-nonempty : (n : ℕ) → 1 ≤ length (decimal n)
 decimal-nonempty n =
     ⊎-elim
-    (λ (small : n < 10). rw (decimal-small n small) (omega arith))
-    (λ (large : 10 ≤ n). rw (decimal-large n large, length-append) (omega arith))
+    (λ (small : n < 10). rw (decimal-one n small) (omega arith))
+    (λ (large : 10 ≤ n). rw (decimal-more n large, length-append) (omega arith))
     (sizes n)
 
 -- a number below 10 ^ (k + 1) has at most k + 1 digits
 pub decimal-length : (k n : ℕ) → n < 10 ^ suc k → length (decimal n) ≤ suc k
-decimal-length zero n h = rw (decimal-small n h) (omega arith)
+decimal-length zero n h = rw (decimal-one n h) (omega arith)
 decimal-length (suc k) n h =
     ⊎-elim
-    (λ (small : n < 10). rw (decimal-small n small) (omega arith))
-    (λ (large : 10 ≤ n). rw (decimal-large n large, length-append)
+    (λ (small : n < 10). rw (decimal-one n small) (omega arith))
+    (λ (large : 10 ≤ n). rw (decimal-more n large, length-append)
     (omega (arith, decimal-length k (n / 10) (omega (arith, pow-suc 10 (suc k))))))
     (sizes n)
 
@@ -93,26 +93,29 @@ each-snoc P (x ∷ xs) d each p zero l = each zero (omega arith)
 each-snoc P (x ∷ xs) d each p (suc i) l = each-snoc P xs d (λ j k. each (suc j) (omega arith)) p i (omega arith)
 
 -- each digit is a byte from '0' to '9'
-pub decimal-ascii : (n i : ℕ) → i < length (decimal n) → (48 ≤ getD (decimal n) i 0) × (getD (decimal n) i 0 ≤ 57)
+abbrev pub Digit : (byte : ℕ) → Type 0
+Digit b = (ascii-zero ≤ b) × (b ≤ ascii-zero + 9)
+
+pub decimal-ascii : (n i : ℕ) → i < length (decimal n) → Digit (getD (decimal n) i 0)
 decimal-ascii =
     decimal-induction
-    (λ n. (i : ℕ) → i < length (decimal n) → (48 ≤ getD (decimal n) i 0) × (getD (decimal n) i 0 ≤ 57))
-    (λ n small. rw (decimal-small n small) (each-snoc (λ v. (48 ≤ v) × (v ≤ 57)) [] (48 + n) (λ j k. absurd (omega arith)) (omega arith)))
-    (λ n large each. rw (decimal-large n large) (each-snoc (λ v. (48 ≤ v) × (v ≤ 57)) (decimal (n / 10)) (48 + n % 10) each (omega arith)))
+    (λ n. (i : ℕ) → i < length (decimal n) → Digit (getD (decimal n) i 0))
+    (λ n small. rw (decimal-one n small) (each-snoc Digit [] (ascii-zero + n) (λ j k. absurd (omega arith)) (omega arith)))
+    (λ n large each. rw (decimal-more n large) (each-snoc Digit (decimal (n / 10)) (ascii-zero + n % 10) each (omega arith)))
 
 -- the first digit of a number other than 0 is not '0'
-pub decimal-leading : (n : ℕ) → 1 ≤ n → 49 ≤ getD (decimal n) 0 0
+pub decimal-leading : (n : ℕ) → 1 ≤ n → ascii-zero < getD (decimal n) 0 0
 decimal-leading =
     decimal-induction
-    (λ n. 1 ≤ n → 49 ≤ getD (decimal n) 0 0)
-    (λ n small h. rw (decimal-small n small) (omega arith))
-    (λ n large first h. rw (decimal-large n large, List·getD-append {A = ℕ} _ _ 0 0 (decimal-nonempty (n / 10))) (first (omega arith)))
+    (λ n. 1 ≤ n → ascii-zero < getD (decimal n) 0 0)
+    (λ n small h. rw (decimal-one n small) (omega arith))
+    (λ n large first h. rw (decimal-more n large, List·getD-append {A = ℕ} _ _ 0 0 (decimal-nonempty (n / 10))) (first (omega arith)))
 
 -- digits are read one part after the other
 pub worth-append : (before : ℕ) (xs ys : List ℕ) → worth before (xs ++ ys) ≡ worth (worth before xs) ys
 unfolding worth
 worth-append before [] ys = refl
-worth-append before (x ∷ xs) ys = worth-append (10 * before + (x - 48)) xs ys
+worth-append before (x ∷ xs) ys = worth-append (10 * before + (x - ascii-zero)) xs ys
 
 -- the digits of n read back as n
 pub decimal-worth : (n : ℕ) → worth 0 (decimal n) ≡ n
@@ -120,5 +123,5 @@ unfolding worth
 decimal-worth =
     decimal-induction
     (λ n. worth 0 (decimal n) ≡ n)
-    (λ n small. rw (decimal-small n small) (omega arith))
-    (λ n large front. rw (decimal-large n large, worth-append, front) (omega arith))
+    (λ n small. rw (decimal-one n small) (omega arith))
+    (λ n large front. rw (decimal-more n large, worth-append, front) (omega arith))

@@ -10,17 +10,17 @@ use lib.ListN.{length, replicate, set, take, length-append}
 use lib.Seq.{set-append-seam, take-all, take-at}
 use borrow.Author.Tests.{lt-ltb, le-ltb}
 use Rattle.text.specs.declared.Text.{Text}
-use Rattle.text.specs.Text.{blank, pushed, pushes, holding}
+use Rattle.text.specs.Text.{capacity, blank, pushed, pushes, holding}
 
 -- with room, the byte is put at place len and counted
-pub pushed-room : (t : Text) (b : ℕ) → t .len < 128 → pushed t b ≡ record { bytes = set (t .bytes) (t .len) b; len = t .len + 1 }
+pub pushed-room : (t : Text) (b : ℕ) → t .len < capacity → pushed t b ≡ record { bytes = set (t .bytes) (t .len) b; len = t .len + 1 }
 unfolding pushed
-pushed-room t b room = rw (lt-ltb (t .len) 128 room)
+pushed-room t b room = rw (lt-ltb (t .len) capacity room)
 
 -- without, the text stays
-pub pushed-full : (t : Text) (b : ℕ) → 128 ≤ t .len → pushed t b ≡ t
+pub pushed-full : (t : Text) (b : ℕ) → capacity ≤ t .len → pushed t b ≡ t
 unfolding pushed
-pushed-full t b full = rw (le-ltb (t .len) 128 full)
+pushed-full t b full = rw (le-ltb (t .len) capacity full)
 
 -- a list pushed is its first part pushed and then its second
 pub pushes-append : (t : Text) (xs ys : List ℕ) → pushes t (xs ++ ys) ≡ pushes (pushes t xs) ys
@@ -34,53 +34,53 @@ unfolding pushes
 pushes-snoc t xs b = pushes-append t xs (b ∷ [])
 
 -- full text takes no list
-pub pushes-full : (t : Text) (xs : List ℕ) → 128 ≤ t .len → pushes t xs ≡ t
+pub pushes-full : (t : Text) (xs : List ℕ) → capacity ≤ t .len → pushes t xs ≡ t
 unfolding pushes
 pushes-full t [] full = refl
 pushes-full t (x ∷ xs) full = rw (pushed-full t x full) (pushes-full t xs full)
 
 -- where there is room, the zeros behind xs are one and those behind xs and a byte
-zeros-split : (xs : List ℕ) (b : ℕ) → length xs < 128
-    → replicate {A = ℕ} (128 - length xs) 0 ≡ 0 ∷ replicate (128 - length (xs ++ b ∷ [])) 0
+zeros-split : (xs : List ℕ) (b : ℕ) → length xs < capacity
+    → replicate {A = ℕ} (capacity - length xs) 0 ≡ 0 ∷ replicate (capacity - length (xs ++ b ∷ [])) 0
 zeros-split xs b room = rw one-more
   where
-    one-more : 128 - length xs ≡ suc (128 - length (xs ++ b ∷ []))
+    one-more : capacity - length xs ≡ suc (capacity - length (xs ++ b ∷ []))
     one-more = omega (arith, length-append xs (b ∷ []))
 
 -- a byte pushed to what holds xs makes it hold xs and the byte
-pub pushed-holding : (xs : List ℕ) (b : ℕ) → length xs < 128 → pushed (holding xs) b ≡ holding (xs ++ b ∷ [])
+pub pushed-holding : (xs : List ℕ) (b : ℕ) → length xs < capacity → pushed (holding xs) b ≡ holding (xs ++ b ∷ [])
 unfolding holding
 pushed-holding xs b room = pushed-room (holding xs) b room ∙ (λ i. record { bytes = filled i; len = counted i })
   where
     counted : length xs + 1 ≡ length (xs ++ b ∷ [])
     counted = sym (length-append xs (b ∷ []))
 
-    filled : set (xs ++ replicate (128 - length xs) 0) (length xs) b ≡ (xs ++ b ∷ []) ++ replicate (128 - length (xs ++ b ∷ [])) 0
+    filled : set (xs ++ replicate (capacity - length xs) 0) (length xs) b ≡ (xs ++ b ∷ []) ++ replicate (capacity - length (xs ++ b ∷ [])) 0
     filled = rw (zeros-split xs b room, set-append-seam, append-assoc)
 
 -- the same for a list: what does not fit is left out
-pub pushes-holding : (xs ys : List ℕ) → length xs ≤ 128 → pushes (holding xs) ys ≡ holding (take 128 (xs ++ ys))
+pub pushes-holding : (xs ys : List ℕ) → length xs ≤ capacity → pushes (holding xs) ys ≡ holding (take capacity (xs ++ ys))
 unfolding pushes holding
-pushes-holding xs [] fits = rw (append-nil, take-all 128 xs fits)
+pushes-holding xs [] fits = rw (append-nil, take-all capacity xs fits)
 pushes-holding xs (y ∷ ys) fits =
     elim (eq-or-lt-of-le fits) [
-      | inl full ↦ pushes-full (holding xs) (y ∷ ys) (omega arith) ∙ ap holding (sym (take-at xs (y ∷ ys) 128 full))
+      | inl full ↦ pushes-full (holding xs) (y ∷ ys) (omega arith) ∙ ap holding (sym (take-at xs (y ∷ ys) capacity full))
       | inr room ↦ ap (λ (t : Text). pushes t ys) (pushed-holding xs y room)
           ∙ pushes-holding (xs ++ y ∷ []) ys (omega (arith, length-append xs (y ∷ [])))
-          ∙ ap (λ (l : List ℕ). holding (take 128 l)) (append-assoc xs (y ∷ []) ys)
+          ∙ ap (λ (l : List ℕ). holding (take capacity l)) (append-assoc xs (y ∷ []) ys)
     ]
 
--- blank text holds the first 128 bytes that are pushed
-pub pushes-blank-cut : (xs : List ℕ) → pushes blank xs ≡ holding (take 128 xs)
+-- blank text holds the bytes that are pushed, as far as there is room
+pub pushes-blank-cut : (xs : List ℕ) → pushes blank xs ≡ holding (take capacity xs)
 unfolding blank holding
 pushes-blank-cut xs = pushes-holding [] xs (omega arith)
 
 -- and so all of them, where they are no more
-pub pushes-blank-holding : (xs : List ℕ) → length xs ≤ 128 → pushes blank xs ≡ holding xs
-pushes-blank-holding xs fits = pushes-blank-cut xs ∙ ap holding (take-all 128 xs fits)
+pub pushes-blank-holding : (xs : List ℕ) → length xs ≤ capacity → pushes blank xs ≡ holding xs
+pushes-blank-holding xs fits = pushes-blank-cut xs ∙ ap holding (take-all capacity xs fits)
 
 -- the same, field by field
-pub pushes-blank : (xs : List ℕ) → length xs ≤ 128
-    → (pushes blank xs .len ≡ length xs) × (pushes blank xs .bytes ≡ xs ++ replicate (128 - length xs) 0)
+pub pushes-blank : (xs : List ℕ) → length xs ≤ capacity
+    → (pushes blank xs .len ≡ length xs) × (pushes blank xs .bytes ≡ xs ++ replicate (capacity - length xs) 0)
 unfolding holding
 pushes-blank xs fits = rw (pushes-blank-holding xs fits) (refl, refl)

@@ -5,10 +5,14 @@ use mathlib.Core.List.{List, [], _∷_, _++_}
 use mathlib.Core.Path.{_≡_, refl}
 use lib.Dec.{ltb}
 
+-- the byte of the digit 0
+abbrev pub ascii-zero : ℕ
+ascii-zero = 48
+
 -- at most `fuel` digits of n, the most significant first: n itself below ten, and else those of n / 10 and then the last one
 unfoldable pub digits : ℕ → ℕ → List ℕ
 digits zero n = []
-digits (suc fuel) n = elim (ltb n 10) [ true ↦ (48 + n) ∷ [] | false ↦ digits fuel (n / 10) ++ (48 + n % 10) ∷ [] ]
+digits (suc fuel) n = elim (ltb n 10) [ true ↦ (ascii-zero + n) ∷ [] | false ↦ digits fuel (n / 10) ++ (ascii-zero + n % 10) ∷ [] ]
 
 -- the digits of n; any fuel above n gives the same list (`digits-enough`)
 unfoldable pub decimal : ℕ → List ℕ
@@ -17,7 +21,7 @@ decimal n = digits (suc n) n
 -- the number that ASCII digits stand for, read behind digits that stand for `before`
 unfoldable pub worth : ℕ → List ℕ → ℕ
 worth before [] = before
-worth before (d ∷ ds) = worth (10 * before + (d - 48)) ds
+worth before (d ∷ ds) = worth (10 * before + (d - ascii-zero)) ds
 
 -- the definition at work
 decimal-examples :

@@ -7,19 +7,23 @@ use lib.Dec.{ltb}
 use lib.ListN.{length, replicate, set}
 use Rattle.text.specs.declared.Text.{Text}
 
--- no byte yet: 128 zeros, none of them counted
-unfoldable pub blank : Text
-blank = record { bytes = replicate 128 0; len = 0 }
+-- how many bytes there is room for
+abbrev pub capacity : ℕ
+capacity = 128
 
--- b at the place behind the counted bytes, and counted; where 128 or more are counted, t as it is
+-- no byte yet: zeros, none of them counted
+unfoldable pub blank : Text
+blank = record { bytes = replicate capacity 0; len = 0 }
+
+-- b at the place behind the counted bytes, and counted; where there is no room left, t as it is
 unfoldable pub pushed : Text → ℕ → Text
-pushed t b = cond (ltb (t .len) 128) (record { bytes = set (t .bytes) (t .len) b; len = t .len + 1 }) t
+pushed t b = cond (ltb (t .len) capacity) (record { bytes = set (t .bytes) (t .len) b; len = t .len + 1 }) t
 
 -- the bytes of a list, pushed one after the other
 unfoldable pub pushes : Text → List ℕ → Text
 pushes t [] = t
 pushes t (b ∷ bs) = pushes (pushed t b) bs
 
--- the text that is the bytes of xs, of which there are at most 128: they come first, all are counted, and the rest is zeros
+-- the text that is the bytes of xs, for which there is room: they come first, all are counted, and the rest is zeros
 unfoldable pub holding : List ℕ → Text
-holding xs = record { bytes = xs ++ replicate (128 - length xs) 0; len = length xs }
+holding xs = record { bytes = xs ++ replicate (capacity - length xs) 0; len = length xs }

@@ -13,7 +13,7 @@ use lib.ListN.{getD}
 use Rattle.market.specs.Market.{Market}
 use Rattle.market.specs.Greatest.{best}
 use Rattle.market.proofs.Prune.{best-ceiling}
-use Rattle.winners.specs.Placement.{Owned}
+use Rattle.winners.specs.Owned.{Owned}
 use Rattle.winners.specs.Searching.{Ceiling, weight-in}
 
 -- a bid of one of the clients is one of the bids
@@ -24,7 +24,8 @@ module _ (m : Market) (xs : List ℕ) (h : Ceiling m xs) where
   -- ceilings bound what the clients reach
   falls : (c : ℕ) → 1 ≤ c → getD xs (152 + (7 - suc c)) 0 ≤ getD xs (152 + (7 - c)) 0
   falls c l = elim (decLt c 7) [
-    | yes k ↦ let e : 6 - c + 1 ≡ 7 - c = omega arith in let f : 7 - suc c ≡ 6 - c = omega arith in rw (f, ← e) (h .rises (6 - c) (omega arith))
+    | yes k ↦ let e : 6 - c + 1 ≡ 7 - c = omega arith in let f : 7 - suc c ≡ 6 - c = omega arith in rw (f, ← e)
+        (h .rises (6 - c) (omega arith))
     | no k ↦ let e : 7 - c ≡ 0 = omega arith in let f : 7 - suc c ≡ 0 = omega arith in rw (e, f) (le-refl _)
   ]
 
@@ -37,7 +38,8 @@ module _ (m : Market) (xs : List ℕ) (h : Ceiling m xs) where
 
   -- by the clients left
   pub ceiling-left : (ahead : ℕ) (ls : List ℕ) → ahead ≤ 6 → best m (weight-in xs) ahead (7 - ahead) ls ≤ getD xs (152 + ahead) 0
-  ceiling-left ahead ls l = let back : 7 - (7 - ahead) ≡ ahead = omega arith in rw back at (ceiling-bounds ahead (7 - ahead) ls (omega arith))
+  ceiling-left ahead ls l = let back : 7 - (7 - ahead) ≡ ahead = omega arith in rw back at
+      (ceiling-bounds ahead (7 - ahead) ls (omega arith))
 
 -- where the ceiling is above the floor, a client is left
 pub some-left : (ahead floor : ℕ) (xs : List ℕ) → getD xs 152 0 ≡ 0 → floor < getD xs (152 + ahead) 0 → 0 < ahead

@@ -18,9 +18,9 @@ use Rattle.market.specs.Greatest.{open-to, choose, best}
 use Rattle.market.proofs.Bools.{either}
 use Rattle.market.proofs.Choose.{choose-open, choose-shut}
 use Rattle.market.proofs.Prune.{max-lowered, choose-last-pass, choose-skip}
-use Rattle.winners.specs.Placement.{Owned}
+use Rattle.winners.specs.Owned.{Owned}
 use Rattle.winners.specs.Prepared.{Linked}
-use Rattle.winners.specs.Searching.{Head, Turn, weight-in}
+use Rattle.winners.specs.Searching.{Head, Searchable, weight-in}
 
 -- the recursion at a client, for a count above 0
 pub best-at : (m : Market) (wt : ℕ → ℕ) (ahead c : ℕ) (ls : List ℕ) → 0 < ahead
@@ -108,15 +108,26 @@ module _ (m : Market) (wt : ℕ → ℕ) (ahead : ℕ) where
       let c = 7 - ahead in
       let next : c + 1 ≡ 7 - (ahead - 1) = omega arith in
       let all : choose m wt i c ls floor reached ≡ choose m wt (m .bids) c ls floor reached
-      = choose-skip m wt c ls reached (m .bids) i floor (omega (arith, o .few)) (λ t k _. shut-other m c ls t (λ e. omega (arith, o .none t k))) in
+      = choose-skip m wt c ls reached (m .bids) i floor (omega (arith, o .few))
+      (λ t k _. shut-other m c ls t (λ e. omega (arith, o .none t k))) in
       er ∙ ap (λ (x : ℕ). max x (reached ls)) (et ∙ all) ∙ choose-last-pass m wt c ls reached (m .bids) floor (reached ls)
       ∙ ap (λ (v : ℕ). max floor v) (sym (rw next at (best-at m wt ahead c ls l)))
 
 -- one client fewer
-pub turn-next : (t ahead used floor after low : ℕ) (xs : List ℕ) → ahead ≡ t → 0 < ahead → Turn ahead used floor xs → low ≤ 30064771065 → after ≤ used + 71777214294589695
-    → (ahead - 1 < t) × Turn (ahead - 1) after low xs
-turn-next t ahead used floor after low xs e n w l g =
-    (omega arith, record { clients-few = omega (arith, w .clients-few); floor-few = l; used-few = omega (arith, w .used-few, w .clients-few); tops-few = w .tops-few; bottom = w .bottom })
+pub searchable-next : (t ahead used floor after low : ℕ) (xs : List ℕ) → ahead ≡ t → 0 < ahead → Searchable ahead used floor xs
+    → low ≤ 30064771065
+    → after ≤ used + 71777214294589695
+    → (ahead - 1 < t) × Searchable (ahead - 1) after low xs
+searchable-next t ahead used floor after low xs e n w l g = (
+  omega arith,
+  record {
+    clients-few = omega (arith, w .clients-few);
+    floor-few = l;
+    used-few = omega (arith, w .used-few, w .clients-few);
+    tops-few = w .tops-few;
+    bottom = w .bottom;
+  },
+)
 
 -- the weight that stands in the array is the bid's
 pub weight-at : (xs : List ℕ) (i : ℕ) → getD xs i 0 ≡ weight-in xs (i + 1)

@@ -1,27 +1,25 @@
 -- The step of the test of a list of bids: one bid more follows or it does not; the sum of amounts and the list of clients for one bid
--- more. Cited by the proofs of src/lib.rt. Assumes nothing.
+-- more. Cited by the proofs of src/choice.rt. Assumes nothing.
 use mathlib.Core.Path.{_≡_, refl, sym, ap, _∙_}
 use mathlib.Core.Bool.{Bool, true, false, _&&_, and-assoc, and-false, and-true, and-eq-true-iff}
 use mathlib.Core.List.{List, [], _∷_}
 use mathlib.Core.Logic.{⊎-elim}
 use Prim.Native.Nat.{ℕ, _+_, _≤_}
-use native.Mathlib.Nat.{add-assoc, add-zero, le-trans, le-of-eq}
+use native.Mathlib.Nat.{add-assoc, add-zero}
 use borrow.Author.Tests.{leb-true}
 use lib.Dec.{leb, ltb}
 use native.Mathlib.Omega.{arith}
 use lib.ListN.{length, take}
-use Rattle.book.specs.Book.{Book, Bid, bid-at, client-of, clients, standing}
-use Rattle.book.specs.Layout.{K-of, n-of, m-of, bid-here, book-in}
-use Rattle.book.proofs.Next.{bytes-length}
-use Rattle.book.proofs.Places.{bid-at-stands, bids-count, clients-count}
-use Rattle.winners.specs.Four.{four}
-use Rattle.winners.proofs.FirstFour.{four-take, less-take}
+use Rattle.book.specs.Book.{Book, bid-at, client-of, clients, standing}
+use Rattle.book.specs.Sound.{Sound}
+use Rattle.winners.specs.ByKind.{by-kind}
+use Rattle.winners.proofs.KindEntries.{by-kind-take, less-take}
 use Rattle.market.specs.Market.{at, fits, less}
 use Rattle.market.specs.Combination.{rising-from}
 use Rattle.market.specs.Combination.{worth}
 use Rattle.market.proofs.Bools.{either}
 use Rattle.winners.specs.Combinations.{market}
-use Rattle.winners.specs.Chosen.{follows}
+use Rattle.winners.specs.Following.{follows}
 
 -- two tests that agree where an earlier one holds
 pub same-where : (a b f g : Bool) → (a ≡ true → f ≡ g) → ((a && b) && f) ≡ ((a && b) && g)
@@ -59,34 +57,33 @@ module _ (b : Book) (c : ℕ) (ls : List ℕ) (i : ℕ) (is : List ℕ) where
       (λ (y : t ≡ false). rw (n, y, and-false ok) (sym (and-false ok) ∙ (rw y at whole)))
       (either t)
 
--- a bid of the book asks for each of its kinds
-hours-count : (bs : List ℕ) (i : ℕ) → 1 ≤ i → i ≤ m-of bs → length (bid-at (book-in bs) i .hours) ≡ K-of bs
-unfolding bid-here
-hours-count bs i l h = ap (λ (x : Bid). length (x .hours)) (bid-at-stands bs i l h) ∙ bytes-length (K-of bs) _ bs
+-- the by-kind hours read, cut to the book's kinds, are the bid's
+asked-hours : (b : Book) → Sound b → (k i : ℕ) → k ≡ length (b .kinds) → 1 ≤ i → i ≤ length (b .bids)
+    → take k (by-kind (bid-at b i .hours)) ≡ bid-at b i .hours
+asked-hours b s k i ek l h = by-kind-take k _ (omega (arith, s .K-high)) (s .kinds-each i l h ∙ sym ek)
 
--- the four hours read, cut to the book's kinds, are the bid's
-asked-hours : (bs : List ℕ) (k i : ℕ) → K-of bs ≤ 4 → k ≡ K-of bs → 1 ≤ i → i ≤ m-of bs → take k (four (bid-at (book-in bs) i .hours)) ≡ bid-at (book-in bs) i .hours
-asked-hours bs k i few ek l h = four-take k _ (omega arith) (hours-count bs i l h ∙ sym ek)
-
--- the test as the code puts it: counts and the owner in locals, hours in an array of four
-pub follows-code : (bs : List ℕ) (k m n i c owner : ℕ) (ls : List ℕ) → K-of bs ≤ 4 → k ≡ K-of bs → m ≡ m-of bs → n ≡ n-of bs → owner ≡ client-of (book-in bs) i
-    → (((leb 1 i && leb i m) && ((ltb c owner && leb owner n) && standing (book-in bs) owner)) && fits (take k (four (bid-at (book-in bs) i .hours))) ls) ≡ follows (book-in bs) c ls i
+-- the test as the code puts it: counts and the owner in locals, hours in an array of by-kind
+pub follows-code : (b : Book) → Sound b → (k m n i c owner : ℕ) (ls : List ℕ) → k ≡ length (b .kinds) → m ≡ length (b .bids) → n ≡ clients b
+    → owner ≡ client-of b i
+    → (((leb 1 i && leb i m) && ((ltb c owner && leb owner n) && standing b owner)) && fits (take k (by-kind (bid-at b i .hours))) ls)
+    ≡ follows b c ls i
 unfolding follows
-follows-code bs k m n i c owner ls few ek em en eo =
-    rw (em, en, eo, bids-count bs, clients-count bs)
-    (same-where (leb 1 i && leb i (m-of bs)) _ _ _
-    (λ y. let q = and-eq-true-iff (leb 1 i) (leb i (m-of bs)) .0 y in
-    ap (λ (hs : List ℕ). fits hs ls) (asked-hours bs k i few ek (leb-true 1 i (q .0)) (leb-true i _ (q .1)))))
+follows-code b s k m n i c owner ls ek em en eo =
+    rw (em, en, eo)
+    (same-where (leb 1 i && leb i (length (b .bids))) _ _ _
+    (λ y. let q = and-eq-true-iff (leb 1 i) (leb i (length (b .bids))) .0 y in
+    ap (λ (hs : List ℕ). fits hs ls) (asked-hours b s k i ek (leb-true 1 i (q .0)) (leb-true i _ (q .1)))))
 
 -- what is left, where the bid is one of the book's
-pub rest-code : (bs : List ℕ) (k i : ℕ) (ls ls′ : List ℕ) → K-of bs ≤ 4 → k ≡ K-of bs → ls′ ≡ less ls (four (bid-at (book-in bs) i .hours)) → 1 ≤ i
-    → i ≤ length (book-in bs .bids) → take k ls′ ≡ less (take k ls) (bid-at (book-in bs) i .hours)
-rest-code bs k i ls ls′ few ek e l h =
-    ap (λ (xs : List ℕ). take k xs) e ∙ less-take k ls _
-    ∙ ap (λ (hs : List ℕ). less (take k ls) hs) (asked-hours bs k i few ek l (le-trans h (le-of-eq (bids-count bs))))
+pub rest-code : (b : Book) → Sound b → (k i : ℕ) (ls ls′ : List ℕ) → k ≡ length (b .kinds) → ls′ ≡ less ls (by-kind (bid-at b i .hours))
+    → 1 ≤ i
+    → i ≤ length (b .bids) → take k ls′ ≡ less (take k ls) (bid-at b i .hours)
+rest-code b s k i ls ls′ ek e l h =
+    ap (λ (xs : List ℕ). take k xs) e ∙ less-take k ls _ ∙ ap (λ (hs : List ℕ). less (take k ls) hs) (asked-hours b s k i ek l h)
 
 -- amounts of the bids left
-pub worth-next : (wt : ℕ → ℕ) (x : ℕ) (xs ys : List ℕ) (s t z : ℕ) → xs ≡ x ∷ ys → t ≡ wt x → s + worth wt xs ≡ z → (s + t) + worth wt ys ≡ z
+pub worth-next : (wt : ℕ → ℕ) (x : ℕ) (xs ys : List ℕ) (s t z : ℕ) → xs ≡ x ∷ ys → t ≡ wt x → s + worth wt xs ≡ z
+    → (s + t) + worth wt ys ≡ z
 unfolding worth
 worth-next wt x xs ys s t z e h q = rw (h, add-assoc) (rw e at q)
 
@@ -94,6 +91,7 @@ pub worth-done : (wt : ℕ → ℕ) (xs : List ℕ) (s z : ℕ) → xs ≡ [] �
 unfolding worth
 worth-done wt xs s z e q = sym (add-zero s) ∙ (rw e at q)
 
-pub choice-done : (b : Book) (c : ℕ) (ls xs : List ℕ) (ok z : Bool) → xs ≡ [] → (ok && rising-from (market b) (clients b) c ls xs) ≡ z → ok ≡ z
+pub choice-done : (b : Book) (c : ℕ) (ls xs : List ℕ) (ok z : Bool) → xs ≡ [] → (ok && rising-from (market b) (clients b) c ls xs) ≡ z
+    → ok ≡ z
 unfolding rising-from
 choice-done b c ls xs ok z e q = sym (and-true ok) ∙ (rw e at q)

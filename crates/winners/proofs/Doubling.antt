@@ -14,8 +14,8 @@ use Rattle.sets.proofs.Members.{has-above, has-last, has-same}
 use Rattle.sets.proofs.Prefixes.{prefix-length, prefix-at}
 use Rattle.market.specs.Market.{at}
 use Rattle.winners.proofs.Surplus.{any-ext}
-use Rattle.winners.specs.Needs.{Listed, Room, Doubled, Discards}
-use Rattle.winners.proofs.Tables.{shl-one}
+use Rattle.winners.specs.Listed.{Listed, Room, Doubled, Discards}
+use Rattle.numbers.proofs.Shifts.{power-shift}
 use Rattle.winners.proofs.Picks.{early, byte-none, byte-with, byte-without, byte-all, byte-small, listed-range}
 
 -- one entry more
@@ -60,7 +60,7 @@ module _ (clients : List ℕ) (count : ℕ) (h : Listed clients count) (e : leng
   -- with one client more they double
   module _ (j : ℕ) (l : j < count) (ds : List ℕ) (b : Bytes clients count j ds) where
     sets-are : (sets-of j ≡ 2 ^ j) × (2 ^ j ≤ 32)
-    sets-are = let few = h .few in (shl-one j (omega arith) .0, pow-mono {i = j} {j = 5} (omega arith))
+    sets-are = let few = h .few in (power-shift j (omega arith), pow-mono {i = j} {j = 5} (omega arith))
 
     bit : (bit-of (getD clients j 0) ≡ 2 ^ (getD clients j 0 - 1)) × (2 ^ (getD clients j 0 - 1) ≤ 32)
     bit = bit-is _ (listed-range clients count j h e l .1)
@@ -85,4 +85,12 @@ module _ (clients : List ℕ) (count : ℕ) (h : Listed clients count) (e : leng
             let long = prefix-length clients count (omega arith) in
             let bits = ap (λ (x : ℕ). 2 ^ (x - 1)) (prefix-at clients count (omega arith) j l) in
             let now = rw (sets-are .0) at (d .added M (omega (arith, sets-are))) in
-            omega (arith, now, b M m, byte-same (take count clients) j M, bits, bit, byte-with (take count clients) (2 ^ j + M) j (h .rising) (omega arith) (has-last j M m))
+            omega (
+              arith,
+              now,
+              b M m,
+              byte-same (take count clients) j M,
+              bits,
+              bit,
+              byte-with (take count clients) (2 ^ j + M) j (h .rising) (omega arith) (has-last j M m),
+            )

@@ -11,7 +11,7 @@ use lib.ListN.{length, getD, set, length-set}
 use lib.Seq.{getD-set-same, getD-set-other}
 use Rattle.market.specs.Market.{Market}
 use Rattle.winners.specs.Looks.{stored}
-use Rattle.winners.specs.Placement.{Owned}
+use Rattle.winners.specs.Owned.{Owned}
 use Rattle.winners.specs.Prepared.{Linked, Asked, Laid, Summable, Ready}
 use Rattle.winners.proofs.Storing.{Blank}
 
@@ -36,11 +36,16 @@ module _ (m : Market) (o : Owned m) where
   }
 
   pub laid-none : (wt : ℕ → ℕ) (k : ℕ) (xs : List ℕ) → Laid m wt k (m .bids) xs
-  laid-none wt k xs = record { weighed = λ j l n. absurd (omega arith); asked = λ j l n. absurd (omega arith); linked = λ j l n. absurd (omega arith) }
+  laid-none wt k xs = record {
+    weighed = λ j l n. absurd (omega arith);
+    asked = λ j l n. absurd (omega arith);
+    linked = λ j l n. absurd (omega arith);
+  }
 
   pub firsts-none : (xs : List ℕ) → Blank xs → Firsts m (m .bids) xs
   firsts-none xs b c a l =
-      rw (b .links (144 + (7 - c)) (omega arith) (omega arith)) (record { after = o .few; own = λ k. absurd (omega arith); none = λ t k n e. omega (arith, o .none t k) })
+      rw (b .links (144 + (7 - c)) (omega arith) (omega arith))
+      (record { after = o .few; own = λ k. absurd (omega arith); none = λ t k n e. omega (arith, o .none t k) })
 
   -- one bid more, in front: bid p, of the client with t clients from it on
   module _ (p t : ℕ) (l : p < m .bids) (et : t ≡ 7 - m .owner (p + 1)) (w v : ℕ) (xs : List ℕ) (long : length xs ≡ 166) where
@@ -89,7 +94,8 @@ module _ (m : Market) (o : Owned m) where
     at-hours =
         let inside = few in
         getD-set-other (set (set linked-one p w) (48 + p) v) (159 + t) (48 + p) u 0 (λ q. omega arith)
-        ∙ getD-set-same (set linked-one p w) (48 + p) v 0 (omega (arith, length-set linked-one p w, length-set (set xs (96 + p) x) (144 + t) p, length-set xs (96 + p) x))
+        ∙ getD-set-same (set linked-one p w) (48 + p) v 0
+        (omega (arith, length-set linked-one p w, length-set (set xs (96 + p) x) (144 + t) p, length-set xs (96 + p) x))
 
     at-link : getD filled (96 + p) 0 ≡ x
     at-link =
@@ -114,7 +120,13 @@ module _ (m : Market) (o : Owned m) where
     at-most =
         let high = near in
         getD-set-same (set (set linked-one p w) (48 + p) v) (159 + t) u 0
-        (omega (arith, length-set (set linked-one p w) (48 + p) v, length-set linked-one p w, length-set (set xs (96 + p) x) (144 + t) p, length-set xs (96 + p) x))
+        (omega (
+          arith,
+          length-set (set linked-one p w) (48 + p) v,
+          length-set linked-one p w,
+          length-set (set xs (96 + p) x) (144 + t) p,
+          length-set xs (96 + p) x,
+        ))
 
     -- the first bid of the client from p + 1 on
     after : Firsts m (p + 1) xs → Linked m (7 - t) (p + 1) x
@@ -129,7 +141,8 @@ module _ (m : Market) (o : Owned m) where
         let high = near in
         elim (ℕ-discrete (7 - c) t) [
           | yes e ↦ let same : m .owner (p + 1) ≡ c = omega (arith, client) in rw (e, at-first) (linked-itself p c same)
-          | no n ↦ rw (other (144 + (7 - c)) (λ q. omega arith) (λ q. omega arith) (λ q. omega arith) (λ q. n (omega arith)) (λ q. omega arith))
+          | no n ↦ rw (other (144 + (7 - c)) (λ q. omega arith) (λ q. omega arith) (λ q. omega arith) (λ q. n (omega arith))
+              (λ q. omega arith))
               (linked-other p c _ (λ s. n (omega (arith, client, s))) (h c a b))
         ]
 
@@ -146,11 +159,13 @@ module _ (m : Market) (o : Owned m) where
             ];
             asked = λ j b d. elim (ℕ-discrete j p) [
               | yes e ↦ rw (e, at-hours) a
-              | no n ↦ rw (other (48 + j) (λ q. omega arith) (λ q. n (omega arith)) (λ q. omega arith) (λ q. omega arith) (λ q. omega arith)) (h .asked j (omega arith) d)
+              | no n ↦ rw (other (48 + j) (λ q. omega arith) (λ q. n (omega arith)) (λ q. omega arith) (λ q. omega arith)
+                  (λ q. omega arith)) (h .asked j (omega arith) d)
             ];
             linked = λ j b d. elim (ℕ-discrete j p) [
               | yes e ↦ rw (e, at-link, client) (after f)
-              | no n ↦ rw (other (96 + j) (λ q. omega arith) (λ q. omega arith) (λ q. n (omega arith)) (λ q. omega arith) (λ q. omega arith)) (h .linked j (omega arith) d)
+              | no n ↦ rw (other (96 + j) (λ q. omega arith) (λ q. omega arith) (λ q. n (omega arith)) (λ q. omega arith)
+                  (λ q. omega arith)) (h .linked j (omega arith) d)
             ];
           }
 
@@ -166,11 +181,13 @@ module _ (m : Market) (o : Owned m) where
           ];
           hours-few = λ i b. elim (ℕ-discrete i p) [
             | yes e ↦ rw (e, at-hours) fv
-            | no n ↦ rw (other (48 + i) (λ q. omega arith) (λ q. n (omega arith)) (λ q. omega arith) (λ q. omega arith) (λ q. omega arith)) (r .hours-few i b)
+            | no n ↦ rw (other (48 + i) (λ q. omega arith) (λ q. n (omega arith)) (λ q. omega arith) (λ q. omega arith) (λ q. omega arith))
+                (r .hours-few i b)
           ];
           rises = λ i b. elim (ℕ-discrete i p) [
             | yes e ↦ rw (e, at-link) (omega (arith, after f .after))
-            | no n ↦ rw (other (96 + i) (λ q. omega arith) (λ q. omega arith) (λ q. n (omega arith)) (λ q. omega arith) (λ q. omega arith)) (r .rises i b)
+            | no n ↦ rw (other (96 + i) (λ q. omega arith) (λ q. omega arith) (λ q. n (omega arith)) (λ q. omega arith) (λ q. omega arith))
+                (r .rises i b)
           ];
         }
 
@@ -184,11 +201,20 @@ module _ (m : Market) (o : Owned m) where
         let grown : getD xs (159 + (7 - m .owner (j + 1))) 0 ≤ getD filled (159 + (7 - m .owner (j + 1))) 0
         = elim (ℕ-discrete (7 - m .owner (j + 1)) t) [
           | yes e ↦ rw (e, at-most) (omega arith)
-          | no n ↦ omega (arith, other (159 + (7 - m .owner (j + 1))) (λ q. omega arith) (λ q. omega arith) (λ q. omega arith) (λ q. omega arith) (λ q. n (omega arith)))
+          | no n ↦ omega (
+            arith,
+            other (159 + (7 - m .owner (j + 1))) (λ q. omega arith) (λ q. omega arith) (λ q. omega arith)
+                (λ q. omega arith) (λ q. n (omega arith)),
+          )
         ] in
         elim (ℕ-discrete j p) [
           | yes e ↦ rw (e, at-weight, ← et, at-most) (omega arith)
-          | no n ↦ omega (arith, other j n (λ q. omega arith) (λ q. omega arith) (λ q. omega arith) (λ q. omega arith), h j (omega arith) b, grown)
+          | no n ↦ omega (
+            arith,
+            other j n (λ q. omega arith) (λ q. omega arith) (λ q. omega arith) (λ q. omega arith),
+            h j (omega arith) b,
+            grown,
+          )
         ]
 
     pub summable-next : w ≤ 4294967295 → Summable xs → Summable filled
@@ -199,7 +225,8 @@ module _ (m : Market) (o : Owned m) where
           long = filled-long;
           few = λ j b. elim (ℕ-discrete j t) [
             | yes e ↦ rw (e, at-most) (omega (arith, s .few t high))
-            | no n ↦ rw (other (159 + j) (λ q. omega arith) (λ q. omega arith) (λ q. omega arith) (λ q. omega arith) (λ q. n (omega arith))) (s .few j b)
+            | no n ↦ rw (other (159 + j) (λ q. omega arith) (λ q. omega arith) (λ q. omega arith) (λ q. omega arith) (λ q. n (omega arith)))
+                (s .few j b)
           ];
           bottom = other 152 (λ q. omega arith) (λ q. omega arith) (λ q. omega arith) (λ q. omega arith) (λ q. omega arith) ∙ s .bottom;
         }
@@ -212,4 +239,8 @@ ready-none xs b = record {
 }
 
 pub summable-none : (xs : List ℕ) → Blank xs → Summable xs
-summable-none xs b = record { long = b .long; few = λ t l. omega (arith, b .rest (159 + t) (omega arith)); bottom = b .rest 152 (omega arith) }
+summable-none xs b = record {
+  long = b .long;
+  few = λ t l. omega (arith, b .rest (159 + t) (omega arith));
+  bottom = b .rest 152 (omega arith);
+}

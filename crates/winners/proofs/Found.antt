@@ -1,112 +1,37 @@
 -- What the search finds in a sound book: the array lays out the market without the clients that are discarded and the bids that never
 -- fit, and the search from floor 0 over all clients gives the greatest value, at most 6,000,000. Cited by the proofs of src/tops.rt and
 -- src/value.rt. Assumes nothing.
-use mathlib.Core.Path.{_≡_, refl, sym, ap, _∙_}
+use mathlib.Core.Path.{_≡_, refl, sym, _∙_}
 use mathlib.Core.Bool.{Bool, true, false, _&&_, not, cond, and-false, true≢false, and-eq-true-iff}
 use mathlib.Core.List.{List}
 use mathlib.Core.Logic.{⊎-elim, inl, inr}
-use Prim.Native.Nat.{ℕ, zero, suc, _+_, _-_, _/_, _^_, _≤_, _<_, max}
+use Prim.Native.Nat.{ℕ, suc, _+_, _-_, _≤_, _<_, max}
 use native.Mathlib.Nat.{zero-max}
 use native.Mathlib.Numerals.{add-one}
 use native.Mathlib.Omega.{arith}
-use lib.Bits.{bitAnd}
 use borrow.Author.Tests.{ltb-true, ltb-false}
-use lib.Dec.{eqb, ltb}
-use lib.ListN.{getD}
-use Rattle.sets.specs.Sets.{has}
-use Rattle.sets.proofs.Members.{and-mask}
+use lib.Dec.{ltb}
+use lib.ListN.{length, getD}
 use Rattle.book.specs.Book.{Book, bid-at, client-of, clients, standing, supplies}
-use Rattle.book.specs.Layout.{K-of, book-in}
 use Rattle.book.specs.Sound.{Sound}
-use Rattle.book.proofs.Soundness.{sound}
-use Rattle.book.proofs.Places.{bids-count, clients-count, supplies-count}
+use Rattle.book.proofs.Soundness.{sound-shaped}
 use Rattle.market.specs.Market.{Market, fits}
 use Rattle.market.specs.Restrict.{fitted}
 use Rattle.market.specs.Greatest.{best}
 use Rattle.market.proofs.Bools.{either}
 use Rattle.market.proofs.Prune.{best-idle, best-weights}
 use Rattle.market.proofs.Fitted.{best-fitted}
-use Rattle.winners.specs.Lanes.{used, Bytes}
 use Rattle.winners.specs.Combinations.{market, amount-of}
 use Rattle.winners.specs.Greatest.{without, discarded, greatest, greatest-without}
 use Rattle.winners.proofs.Books.{supplied}
-use Rattle.winners.proofs.Refusals.{refusal-none}
 use Rattle.winners.proofs.Most.{greatest-most}
-use Rattle.winners.specs.Four.{four}
-use Rattle.winners.specs.Looks.{Looks-are, fitting}
-use Rattle.winners.specs.Placement.{Owned}
-use Rattle.winners.specs.Prepared.{Links, Laid, Standing, Prepared}
+use Rattle.winners.specs.Looks.{fitting}
+use Rattle.winners.specs.Owned.{Owned}
+use Rattle.winners.specs.Prepared.{Links, Standing, Prepared}
 use Rattle.winners.proofs.Placing.{owned-fitting}
-use Rattle.winners.proofs.Fitting.{unsold, supply-bytes}
-use Rattle.winners.proofs.Preparing.{looks-prepared}
-use Rattle.winners.specs.Searching.{Left, Turned, Ceiling, Head, begins, Looked, Turn, weight-in}
+use Rattle.winners.specs.Searching.{Readied, Value-found, Topped-for, Ceiling, Head, begins, Looked, weight-in}
 use Rattle.winners.proofs.Ceilings.{owned-inside, ceiling-left}
-
--- the test by shift and mask
-discarded-bit : (d c : ℕ) → 1 ≤ c → discarded d c ≡ eqb (bitAnd (d / 2 ^ (c - 1)) 1) 1
-unfolding discarded has
-discarded-bit d zero l = absurd (omega arith)
-discarded-bit d (suc c) l = rw and-mask (ap (λ (k : ℕ). has d k) (omega arith))
-
--- the same by the clients left
-pub discarded-turn : (d t : ℕ) → t ≤ 6 → discarded d (7 - t) ≡ eqb (bitAnd (d / 2 ^ (6 - t)) 1) 1
-discarded-turn d t l = let back : 7 - t - 1 ≡ 6 - t = omega arith in rw back at (discarded-bit d (7 - t) (omega arith))
-
--- the supply in lanes
-supply-left : (bs : List ℕ) (hours : ℕ) → Sound bs → Bytes bs → hours ≡ used 4 (four (supplies (book-in bs))) → Left (K-of bs) (supplies (book-in bs)) hours
-supply-left bs hours s b g = record {
-  kinds = supplies-count bs;
-  kinds-few = s .K-high;
-  bytes = supply-bytes bs (s .K-high) b;
-  lanes = g ∙ unsold bs (s .K-high);
-}
-
--- what is made once for a book that is not refused
-pub made-sound : (bs before : List ℕ) (n hours : ℕ) (xs : List ℕ) → Bytes bs → Looks-are bs before n hours xs → n ≤ 0
-    → Sound bs × (Left (K-of bs) (supplies (book-in bs)) hours × Prepared bs xs)
-made-sound bs before n hours xs b h l =
-    let none = refusal-none (h .numbered) l in
-    let s = sound bs none in
-    (s, (supply-left bs hours s b (rw none at (h .supplied)), rw (rw none at (h .looked)) (looks-prepared bs s b)))
-
--- what one discard byte changes leaves the rest as it was
-module _ (d : ℕ) (xs ys : List ℕ) where
-  pub turned-laid : (m : Market) (wt : ℕ → ℕ) (k : ℕ) → Turned d xs ys → Owned m → Laid m wt k 0 xs → Laid m wt k 0 ys
-  turned-laid m wt k t o p = record {
-    weighed = λ j a l. t .kept j (inl (omega (arith, o .few))) ∙ p .weighed j a l;
-    asked = λ j a l. rw (t .kept (48 + j) (inl (omega (arith, o .few)))) (p .asked j a l);
-    linked = λ j a l. rw (t .kept (96 + j) (inl (omega (arith, o .few)))) (p .linked j a l);
-  }
-
-  pub turned-prepared : (bs : List ℕ) → Sound bs → Turned d xs ys → Prepared bs xs → Prepared bs ys
-  turned-prepared bs s t p =
-      let o = owned-fitting bs s in
-      let r = p .ready in
-      let g = p .stands in
-      record {
-        laid = turned-laid (fitting (book-in bs)) (amount-of (book-in bs)) (K-of bs) t o (p .laid);
-        ready = record {
-          weights-few = λ i l. rw (t .kept i (inl (omega arith))) (r .weights-few i l);
-          hours-few = λ i l. rw (t .kept (48 + i) (inl (omega arith))) (r .hours-few i l);
-          rises = λ i l. rw (t .kept (96 + i) (inl (omega arith))) (r .rises i l);
-        };
-        stands = record {
-          first = λ c l k y. rw (t .kept (144 + (7 - c)) (inl (omega arith))) (g .first c l k y);
-          gone = λ c l k n. t .kept (144 + (7 - c)) (inl (omega arith)) ∙ g .gone c l k n;
-          covers = λ j l y. omega (arith, t .kept j (inl (omega (arith, o .few))), t .kept (159 + (7 - fitting (book-in bs) .owner (j + 1))) (inr (omega arith)), g .covers j l y);
-        };
-        summable = record { long = t .long; few = λ i l. rw (t .kept (159 + i) (inr (omega arith))) (p .summable .few i l); bottom = t .kept 152 (inl (omega arith)) ∙ p .summable .bottom };
-      }
-
-  -- the search may begin
-  pub turned-turn : (hours : ℕ) → Turned d xs ys → hours ≤ 71777214294589695 → Turn 6 hours 0 ys
-  turned-turn hours t g = record {
-    clients-few = omega arith;
-    floor-few = omega arith;
-    used-few = omega arith;
-    tops-few = λ i l. omega (arith, t .topped .few i l);
-    bottom = t .topped .bottom;
-  }
+use Rattle.winners.proofs.Discarding.{topped-laid, topped-prepared}
 
 -- the market that is searched: without the clients that are discarded, and without the bids that never fit
 abbrev pub searched : Book → (discard : ℕ) → Market
@@ -122,21 +47,29 @@ module _ (b : Book) (d : ℕ) where
   unfolding without
   links-searched xs h j l k = let e = h j l k in record { after = e .after; own = e .own; none = e .none }
 
-  module _ (xs ys : List ℕ) (o : Owned (fitting b)) (six : (i : ℕ) → i < fitting b .bids → client-of b (i + 1) ≤ 6) (s : Standing b xs) (t : Turned d xs ys) where
+  module _ (xs ys : List ℕ) (o : Owned (fitting b)) (six : (i : ℕ) → i < fitting b .bids → client-of b (i + 1) ≤ 6) (s : Standing b xs)
+      (t : Topped-for d xs ys) where
     -- the sums of the largest weights are ceilings
     ceiling-searched : Ceiling (searched b d) ys
     unfolding without market
     ceiling-searched = record {
       bottom = t .topped .bottom;
       rises = t .topped .rises;
-      covers = λ i l y. let (able, fit) = and-eq-true-iff (standing b (client-of b (i + 1)) && not (discarded d (client-of b (i + 1)))) _ .0 y in
+      covers = λ i l y. let (able, fit) = and-eq-true-iff (standing b (client-of b (i + 1)) && not (discarded d (client-of b (i + 1)))) _ .0
+          y in
           let (stands, stays) = and-eq-true-iff (standing b (client-of b (i + 1))) _ .0 able in
           let low : 1 ≤ client-of b (i + 1) = rw fit at (o .low i l) in
           let here : 6 - client-of b (i + 1) + 1 ≡ 7 - client-of b (i + 1) = omega (arith, six i l) in
           let back : 7 - (7 - client-of b (i + 1)) ≡ client-of b (i + 1) = omega (arith, six i l) in
           let grown = rw here at (t .topped .grows (6 - client-of b (i + 1)) (omega arith) (rw (here, back) stays)) in
           let covered = (rw fit at (s .covers i l)) stands in
-          rw fit (omega (arith, covered, t .kept i (inl (omega (arith, o .few))), t .kept (159 + (7 - client-of b (i + 1))) (inr (omega arith)), grown));
+          rw fit (omega (
+            arith,
+            covered,
+            t .kept i (inl (omega (arith, o .few))),
+            t .kept (159 + (7 - client-of b (i + 1))) (inr (omega arith)),
+            grown,
+          ));
     }
 
     -- the search begins with a client whose bids may be taken, and with no other
@@ -150,7 +83,9 @@ module _ (b : Book) (d : ℕ) where
           let here : 6 - c + 1 ≡ 7 - c = omega arith in
           let back : 7 - (7 - c) ≡ c = omega arith in
           ⊎-elim
-          (λ (y : above ≡ true). let stays = rw (here, back, z) at (t .topped .only (6 - c) (omega arith) (rw here (ltb-true (getD ys (152 + (6 - c)) 0) (getD ys (152 + (7 - c)) 0) y))) in absurd (true≢false (sym stays)))
+          (λ (y : above ≡ true). let stays = rw (here, back, z) at
+          (t .topped .only (6 - c) (omega arith) (rw here (ltb-true (getD ys (152 + (6 - c)) 0) (getD ys (152 + (7 - c)) 0) y))) in
+          absurd (true≢false (sym stays)))
           (λ (n : above ≡ false). n)
           (either above)
 
@@ -162,7 +97,14 @@ module _ (b : Book) (d : ℕ) where
           let inside = owned-inside (fitting b) c i o l e in
           let grown = rw here at (t .topped .grows (6 - c) (omega arith) (rw (here, back, z))) in
           let weighs = rw e at (s .covers i inside (rw e y)) in
-          omega (arith, some i inside, weighs, t .kept (159 + (7 - c)) (inr (omega arith)), grown, ltb-false (getD ys (152 + (6 - c)) 0) (getD ys (152 + (7 - c)) 0) n)
+          omega (
+            arith,
+            some i inside,
+            weighs,
+            t .kept (159 + (7 - c)) (inr (omega arith)),
+            grown,
+            ltb-false (getD ys (152 + (6 - c)) 0) (getD ys (152 + (7 - c)) 0) n,
+          )
 
       first-same : getD ys (144 + (7 - c)) 0 ≡ getD xs (144 + (7 - c)) 0
       first-same = t .kept (144 + (7 - c)) (inl (omega arith))
@@ -181,7 +123,11 @@ module _ (b : Book) (d : ℕ) where
           (λ (z : discarded d c ≡ true). rw (level z) (shut (λ i e. rw (its-own i e .0, z) (and-false (standing b c)))))
           (λ (z : discarded d c ≡ false). ⊎-elim
           (λ (r : above ≡ true). let first = s .first c l k y in
-          rw (r, first-same) (record { able = λ _ i e. rw (its-own i e .0, y, z) (its-own i e .1); own = first .own; none = λ i a e. absurd (first .none i (omega arith) a e) }))
+          rw (r, first-same) (record {
+            able = λ _ i e. rw (its-own i e .0, y, z) (its-own i e .1);
+            own = first .own;
+            none = λ i a e. absurd (first .none i (omega arith) a e);
+          }))
           (λ (r : above ≡ false). rw r (shut (λ i e. absurd (raised z y r i e))))
           (either above))
           (either (discarded d c)))
@@ -192,43 +138,59 @@ module _ (b : Book) (d : ℕ) where
           none n true = first-same ∙ s .gone c l k n
           none n false = refl
 
-          shut : ((i : ℕ) → fitting b .owner (i + 1) ≡ c → (standing b (client-of b (i + 1)) && not (discarded d (client-of b (i + 1)))) ≡ false) → Head (searched b d) c 48
+          shut : ((i : ℕ) → fitting b .owner (i + 1) ≡ c
+              → (standing b (client-of b (i + 1)) && not (discarded d (client-of b (i + 1)))) ≡ false) → Head (searched b d) c 48
           shut f = record { able = λ j. absurd (omega arith); own = λ j. absurd (omega arith); none = λ i _ q. rw (f i q) }
 
 -- all that the search looks up, of the market that is searched
-pub looked-sound : (bs xs ys : List ℕ) (d : ℕ) → Sound bs → Prepared bs xs → Turned d xs ys → Looked (searched (book-in bs) d) (K-of bs) ys
+pub looked-sound : (b : Book) (xs ys : List ℕ) (d : ℕ) → Sound b → Prepared b xs → Topped-for d xs ys
+    → Looked (searched b d) (length (b .kinds)) ys
 unfolding without market amount-of
-looked-sound bs xs ys d s p t =
-    let o = owned-fitting bs s in
-    let laid = turned-laid d xs ys (fitting (book-in bs)) (amount-of (book-in bs)) (K-of bs) t o (p .laid) in
-    let six : (i : ℕ) → i < fitting (book-in bs) .bids → client-of (book-in bs) (i + 1) ≤ 6
-    = λ i l. omega (arith, s .client-high (i + 1) (omega arith) (omega (arith, bids-count bs)), s .n-high) in
+looked-sound b xs ys d s p t =
+    let o = owned-fitting b s in
+    let laid = topped-laid d xs ys (fitting b) (amount-of b) (length (b .kinds)) t o (p .laid) in
+    let six : (i : ℕ) → i < fitting b .bids → client-of b (i + 1) ≤ 6
+    = λ i l. omega (arith, s .client-high (i + 1) (omega arith) (omega arith), s .n-high) in
     record {
-      owned = owned-searched (book-in bs) d o;
+      owned = owned-searched b d o;
       asked = λ i l. laid .asked i (omega arith) l;
-      linked = links-searched (book-in bs) d ys (laid .linked);
-      ceiling = ceiling-searched (book-in bs) d xs ys o six (p .stands) t;
-      headed = head-searched (book-in bs) d xs ys o six (p .stands) t (λ i l. omega (arith, p .laid .weighed i (omega arith) l, s .amount-low (i + 1) (omega arith) (omega (arith, bids-count bs))));
+      linked = links-searched b d ys (laid .linked);
+      ceiling = ceiling-searched b d xs ys o six (p .stands) t;
+      headed = head-searched b d xs ys o six (p .stands) t
+          (λ i l. omega (arith, p .laid .weighed i (omega arith) l, s .amount-low (i + 1) (omega arith) (omega arith)));
     }
 
 -- under a ceiling of 0 nothing is reached
-pub nothing-found : (bs xs ys : List ℕ) (d : ℕ) → Sound bs → Prepared bs xs → Turned d xs ys → getD ys 158 0 ≡ 0
-    → 0 ≡ max 0 (best (searched (book-in bs) d) (weight-in ys) 6 1 (supplies (book-in bs)))
-nothing-found bs xs ys d s p t e =
-    omega (arith, ceiling-left (searched (book-in bs) d) ys (looked-sound bs xs ys d s p t .ceiling) 6 (supplies (book-in bs)) (omega arith))
+pub nothing-found : (b : Book) (xs ys : List ℕ) (d : ℕ) → Sound b → Prepared b xs → Topped-for d xs ys → getD ys 158 0 ≡ 0
+    → 0 ≡ max 0 (best (searched b d) (weight-in ys) 6 1 (supplies b))
+nothing-found b xs ys d s p t e =
+    omega (arith, ceiling-left (searched b d) ys (looked-sound b xs ys d s p t .ceiling) 6 (supplies b) (omega arith))
 
 -- the search from floor 0 over six clients
-pub greatest-found : (bs xs : List ℕ) (d r : ℕ) → Sound bs → Prepared bs xs
-    → r ≡ max 0 (best (searched (book-in bs) d) (weight-in xs) 6 1 (supplies (book-in bs))) → (r ≡ greatest (book-in bs) d) × (r ≤ 6000000)
+pub greatest-found : (b : Book) (xs : List ℕ) (d r : ℕ) → Sound b → Prepared b xs
+    → r ≡ max 0 (best (searched b d) (weight-in xs) 6 1 (supplies b)) → (r ≡ greatest b d) × (r ≤ 6000000)
 unfolding greatest greatest-without without market weight-in
-greatest-found bs xs d r s p er =
-    let m = without (book-in bs) (discarded d) in
-    let n = clients (book-in bs) in
-    let all : n + (6 - n) ≡ 6 = omega (arith, clients-count bs, s .n-high) in
-    let owners : (i : ℕ) → suc i ≤ market (book-in bs) .bids → client-of (book-in bs) (suc i) ≤ n
-    = λ i l. omega (arith, clients-count bs, s .client-high (suc i) (omega arith) (omega (arith, bids-count bs))) in
-    let fitting-all = best-fitted 7 m 6 (supplies (book-in bs)) (supplied bs) (weight-in xs) in
-    let idle = best-idle m (weight-in xs) n owners (6 - n) n 1 (supplies (book-in bs)) (omega arith) in
-    let amounts = best-weights m (weight-in xs) (amount-of (book-in bs)) (λ i l. rw (add-one i) at (p .laid .weighed i (omega arith) l)) n 1 (supplies (book-in bs)) in
-    let v : r ≡ greatest (book-in bs) d = er ∙ zero-max _ ∙ fitting-all ∙ (rw all at idle) ∙ amounts in
-    (v, omega (arith, v, greatest-most bs s d))
+greatest-found b xs d r s p er =
+    let m = without b (discarded d) in
+    let n = clients b in
+    let all : n + (6 - n) ≡ 6 = omega (arith, s .n-high) in
+    let owners : (i : ℕ) → suc i ≤ market b .bids → client-of b (suc i) ≤ n
+    = λ i l. omega (arith, s .client-high (suc i) (omega arith) (omega arith)) in
+    let fitting-all = best-fitted 7 m 6 (supplies b) (supplied b (sound-shaped b s)) (weight-in xs) in
+    let idle = best-idle m (weight-in xs) n owners (6 - n) n 1 (supplies b) (omega arith) in
+    let amounts = best-weights m (weight-in xs) (amount-of b) (λ i l. rw (add-one i) at (p .laid .weighed i (omega arith) l)) n 1
+    (supplies b) in
+    let v : r ≡ greatest b d = er ∙ zero-max _ ∙ fitting-all ∙ (rw all at idle) ∙ amounts in
+    (v, omega (arith, v, greatest-most b s d))
+
+-- so a value of the search, with the array that is left, is what its contract asks
+pub value-found : (b : Book) (d used : ℕ) (xs ys : List ℕ) (r : ℕ) → Readied b used xs → Topped-for d xs ys
+    → r ≡ max 0 (best (searched b d) (weight-in ys) 6 1 (supplies b)) → Value-found b d used ys r
+value-found b d used xs ys r h t e =
+    let made = topped-prepared d xs ys b (h .sound) t (h .prepared) in
+    let found = greatest-found b ys d r (h .sound) made e in
+    record {
+      greatest-is = found .0;
+      few = found .1;
+      readied = record { sound = h .sound; left = h .left; prepared = made };
+    }

@@ -1,5 +1,5 @@
--- The recursion gives the greatest value: unbeaten and attained over combinations of clients that stay, for any bytes (greatest-value).
--- Cited by the contract of the greatest value and by the layers above. Assumes nothing.
+-- The recursion gives the greatest value: unbeaten and attained over combinations of clients that stay, for any book whose bids ask for its
+-- kinds alone (greatest-value). Cited by the contract of the greatest value and by the layers above. Assumes nothing.
 use mathlib.Core.Path.{_≡_, refl, sym, ap, fun-ext}
 use mathlib.Core.Bool.{Bool, false, not}
 use mathlib.Core.List.{List}
@@ -12,7 +12,7 @@ use Rattle.market.proofs.Optimum.{greatest-best}
 use Rattle.market.proofs.Restrict.{combination-only}
 use Rattle.sets.proofs.Members.{has-zero}
 use Rattle.book.specs.Book.{Book, clients, supplies}
-use Rattle.book.specs.Layout.{book-in}
+use Rattle.book.specs.Sound.{Shaped}
 use Rattle.winners.specs.Combinations.{market, amount-of, Combination}
 use Rattle.winners.specs.Greatest.{without, greatest-without, None-out, Greatest-value, discarded, greatest}
 use Rattle.winners.proofs.Books.{supplied}
@@ -25,12 +25,11 @@ combination-without b out is =
     let both = combination-only (market b) (clients b) (λ c. not (out c)) (supplies b) is in
     (λ c. (both .0 c .0, λ k l. not-true _ (both .0 c .1 k l)), λ (c, n). both .1 (c, λ k l. ap not (n k l)))
 
-module _ (bs : List ℕ) (out : ℕ → Bool) where
-  pub greatest-value : Greatest-value (book-in bs) out (greatest-without (book-in bs) out)
+module _ (b : Book) (shaped : Shaped b) (out : ℕ → Bool) where
+  pub greatest-value : Greatest-value b out (greatest-without b out)
   unfolding greatest-without without
   greatest-value =
-      let b = book-in bs in
-      let top = greatest-best (without b out) (clients b) (supplies b) (amount-of b) (supplied bs) in
+      let top = greatest-best (without b out) (clients b) (supplies b) (amount-of b) (supplied b shaped) in
       let (is, c, r, e) = top .attained in
       let (c′, n) = combination-without b out is .0 c in
       record {
@@ -39,7 +38,7 @@ module _ (bs : List ℕ) (out : ℕ → Bool) where
       }
 
   -- and no other number is the greatest
-  pub greatest-only-one : (v : ℕ) → Greatest-value (book-in bs) out v → v ≡ greatest-without (book-in bs) out
+  pub greatest-only-one : (v : ℕ) → Greatest-value b out v → v ≡ greatest-without b out
   greatest-only-one v g =
       let h = greatest-value in
       let (is, c, n, e) = g .attained in
@@ -47,12 +46,12 @@ module _ (bs : List ℕ) (out : ℕ → Bool) where
       le-antisymm (le-trans (le-of-eq (sym e)) (h .unbeaten is c n)) (le-trans (le-of-eq (sym e′)) (g .unbeaten is′ c′ n′))
 
 -- with more clients out the greatest value is no higher
-pub greatest-fewer : (bs : List ℕ) (out out′ : ℕ → Bool) → ((c : ℕ) → out′ c ≡ false → out c ≡ false)
-    → greatest-without (book-in bs) out′ ≤ greatest-without (book-in bs) out
+pub greatest-fewer : (b : Book) → Shaped b → (out out′ : ℕ → Bool) → ((c : ℕ) → out′ c ≡ false → out c ≡ false)
+    → greatest-without b out′ ≤ greatest-without b out
 unfolding None-out
-greatest-fewer bs out out′ h =
-    let (is, c, n, e) = greatest-value bs out′ .attained in
-    le-trans (le-of-eq (sym e)) (greatest-value bs out .unbeaten is c (λ k l. h _ (n k l)))
+greatest-fewer b shaped out out′ h =
+    let (is, c, n, e) = greatest-value b shaped out′ .attained in
+    le-trans (le-of-eq (sym e)) (greatest-value b shaped out .unbeaten is c (λ k l. h _ (n k l)))
 
 -- discarding nobody
 pub discarded-none : (c : ℕ) → discarded 0 c ≡ false
@@ -60,6 +59,6 @@ unfolding discarded
 discarded-none zero = refl
 discarded-none (suc c) = has-zero c
 
-pub greatest-all : (bs : List ℕ) → greatest (book-in bs) 0 ≡ greatest-without (book-in bs) (λ c. false)
+pub greatest-all : (b : Book) → greatest b 0 ≡ greatest-without b (λ c. false)
 unfolding greatest
-greatest-all bs = ap (λ (out : ℕ → Bool). greatest-without (book-in bs) out) (fun-ext discarded-none)
+greatest-all b = ap (λ (out : ℕ → Bool). greatest-without b out) (fun-ext discarded-none)

@@ -20,8 +20,10 @@ guard-set byte l = blocks 8 1 1 byte 0 (256 + byte) 256 l (omega arith) (omega a
 guard-clear : (byte : ℕ) → byte < 256 → bitAnd byte 256 ≡ 0
 guard-clear byte l = blocks 8 0 1 byte 0 byte 256 l (omega arith) (omega arith) refl ∙ omega (arith, and-zero-r byte)
 
-pub lane-apart : (lane g rest gs : ℕ) → lane < 65536 → g < 65536 → bitAnd (lane + 65536 * rest) (g + 65536 * gs) ≡ bitAnd lane g + 65536 * bitAnd rest gs
-lane-apart lane g rest gs l m = blocks 16 rest gs lane g (lane + 65536 * rest) (g + 65536 * gs) l m (omega arith) (omega arith) ∙ omega arith
+pub lane-apart : (lane g rest gs : ℕ) → lane < 65536 → g < 65536
+    → bitAnd (lane + 65536 * rest) (g + 65536 * gs) ≡ bitAnd lane g + 65536 * bitAnd rest gs
+lane-apart lane g rest gs l m = blocks 16 rest gs lane g (lane + 65536 * rest) (g + 65536 * gs) l m (omega arith) (omega arith)
+    ∙ omega arith
 
 -- a number whose lowest guard is clear has every guard clear if and only if the lanes above have theirs clear
 clear-test : (x y : ℕ) → x ≡ 65536 * y → eqb x 0 ≡ eqb y 0

@@ -21,7 +21,7 @@ use Rattle.market.proofs.Bools.{either}
 use Rattle.winners.specs.Greatest.{discarded}
 use Rattle.winners.specs.Surplus.{any, picked}
 use Rattle.winners.proofs.Surplus.{picked-true}
-use Rattle.winners.specs.Needs.{Listed}
+use Rattle.winners.specs.Listed.{Listed}
 use Rattle.winners.specs.Surpluses.{rising-to}
 
 -- clients that rise lie between
@@ -43,8 +43,10 @@ rising-apart : (n c : ℕ) (xs : List ℕ) → rising-to n c xs ≡ true → (i 
 unfolding rising-to
 rising-apart n c [] t i j k l = absurd (omega arith)
 rising-apart n c (x ∷ xs) t i zero k l = absurd (omega arith)
-rising-apart n c (x ∷ xs) t zero (suc j) k l = rising-range n x xs (and-eq-true-iff (ltb c x && leb x n) _ .0 t .1) j (le-of-suc-le-suc l) .0
-rising-apart n c (x ∷ xs) t (suc i) (suc j) k l = rising-apart n x xs (and-eq-true-iff (ltb c x && leb x n) _ .0 t .1) i j (le-of-suc-le-suc k) (le-of-suc-le-suc l)
+rising-apart n c (x ∷ xs) t zero (suc j) k l = rising-range n x xs (and-eq-true-iff (ltb c x && leb x n) _ .0 t .1) j
+    (le-of-suc-le-suc l) .0
+rising-apart n c (x ∷ xs) t (suc i) (suc j) k l = rising-apart n x xs (and-eq-true-iff (ltb c x && leb x n) _ .0 t .1) i j
+    (le-of-suc-le-suc k) (le-of-suc-le-suc l)
 
 -- a list that rises to n rises to any more
 pub rising-more : (n m c : ℕ) (xs : List ℕ) → n ≤ m → rising-to n c xs ≡ true → rising-to m c xs ≡ true
@@ -89,7 +91,8 @@ module _ (cs : List ℕ) (L : ℕ) where
     absent : early j (at cs j - 1) ≡ false
     absent =
         let r = rising-range 6 0 cs t j l in
-        any-none j _ (λ i h. rw (ne-eqb (at cs i) (suc (at cs j - 1)) (λ q. omega (arith, rising-apart 6 0 cs t i j h l))) (and-false (has L i)))
+        any-none j _ (λ i h. rw (ne-eqb (at cs i) (suc (at cs j - 1)) (λ q. omega (arith, rising-apart 6 0 cs t i j h l)))
+        (and-false (has L i)))
 
     present : has L j ≡ true → early (j + 1) (at cs j - 1) ≡ true
     present y =
@@ -100,13 +103,15 @@ module _ (cs : List ℕ) (L : ℕ) where
   pub byte-without : (j : ℕ) → has L j ≡ false → set-of 6 (early j) ≡ set-of 6 (early (j + 1))
   byte-without j y = ap (λ (f : ℕ → Bool). set-of 6 f) (fun-ext (λ k. sym (early-next j k ∙ rw y (or-false (early j k)))))
 
-  pub byte-with : (j : ℕ) → rising-to 6 0 cs ≡ true → j < length cs → has L j ≡ true → set-of 6 (early j) + 2 ^ (at cs j - 1) ≡ set-of 6 (early (j + 1))
+  pub byte-with : (j : ℕ) → rising-to 6 0 cs ≡ true → j < length cs → has L j ≡ true
+      → set-of 6 (early j) + 2 ^ (at cs j - 1) ≡ set-of 6 (early (j + 1))
   byte-with j t l y =
       let r = rising-range 6 0 cs t j l in
       set-of-add 6 (at cs j - 1) (early j) (early (j + 1)) (omega arith) (absent j t l) (present j t l y) (later j t l)
 
 -- the clients of a list are from 1 to 6
-pub listed-range : (clients : List ℕ) (count j : ℕ) → Listed clients count → length clients ≡ 6 → j < count → (1 ≤ getD clients j 0) × (getD clients j 0 ≤ 6)
+pub listed-range : (clients : List ℕ) (count j : ℕ) → Listed clients count → length clients ≡ 6 → j < count → (1 ≤ getD clients j 0)
+    × (getD clients j 0 ≤ 6)
 listed-range clients count j h e l =
     let few = h .few in
     let at-j = prefix-at clients count (omega arith) j l in
@@ -120,7 +125,8 @@ unpicked cs L c h =
     (either (picked cs L c))
 
 -- the byte discards just the picked clients
-pub byte-picks : (n : ℕ) (cs : List ℕ) (L : ℕ) → rising-to n 0 cs ≡ true → (c : ℕ) → discarded (set-of n (λ j. picked cs L (suc j))) c ≡ picked cs L c
+pub byte-picks : (n : ℕ) (cs : List ℕ) (L : ℕ) → rising-to n 0 cs ≡ true → (c : ℕ)
+    → discarded (set-of n (λ j. picked cs L (suc j))) c ≡ picked cs L c
 unfolding discarded
 byte-picks n cs L t zero = sym (unpicked cs L 0 (λ j l. let r = rising-range n 0 cs t j l in omega arith))
 byte-picks n cs L t (suc c) =

@@ -6,7 +6,8 @@ use Prim.Native.Nat.{ℕ}
 use lib.Dec.{leb, ltb}
 use Rattle.winners.specs.Surpluses.{rising-to}
 
-pub rising-next : (n last next : ℕ) (xs ys : List ℕ) (ok t now z : Bool) → xs ≡ next ∷ ys → now ≡ (ok && t) → t ≡ (ltb last next && leb next n)
+pub rising-next : (n last next : ℕ) (xs ys : List ℕ) (ok t now z : Bool) → xs ≡ next ∷ ys → now ≡ (ok && t)
+    → t ≡ (ltb last next && leb next n)
     → (ok && rising-to n last xs) ≡ z → (now && rising-to n next ys) ≡ z
 unfolding rising-to
 rising-next n last next xs ys ok t now z e m q r = rw (m, q, and-assoc) (rw e at r)

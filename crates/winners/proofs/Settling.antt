@@ -13,11 +13,12 @@ use lib.Seq.{getD-set-same, getD-set-other}
 use Rattle.book.specs.Book.{Book, standing}
 use Rattle.market.specs.Market.{Market}
 use Rattle.winners.specs.Looks.{fitting, settled, stood}
-use Rattle.winners.specs.Placement.{Owned}
+use Rattle.winners.specs.Owned.{Owned}
 use Rattle.winners.specs.Prepared.{Laid, Summable, Ready, Standing}
 use Rattle.winners.proofs.Filling.{Firsts, Largest}
 
--- of the last n clients, by the clients from each on, those that do not stand have no first bid and no largest weight; all else is as before
+-- of the last n clients, by the clients from each on, those that do not stand have no first bid and no largest weight; all else is as
+-- before
 pub record Stood (b : Book) (n : ℕ) (before after : List ℕ) : Type 0 where
   pub long : length after ≡ 166
   pub first : (t : ℕ) → t < n → getD after (144 + t) 0 ≡ cond (standing b (7 - t)) (getD before (144 + t) 0) 48
@@ -27,7 +28,14 @@ pub record Stood (b : Book) (n : ℕ) (before after : List ℕ) : Type 0 where
   pub high : (p : ℕ) → 159 + n ≤ p → getD after p 0 ≡ getD before p 0
 
 stood-none : (b : Book) (xs : List ℕ) → length xs ≡ 166 → Stood b 0 xs xs
-stood-none b xs long = record { long = long; first = λ t l. absurd (omega arith); most = λ t l. absurd (omega arith); low = λ p l. refl; mid = λ p l k. refl; high = λ p l. refl }
+stood-none b xs long = record {
+  long = long;
+  first = λ t l. absurd (omega arith);
+  most = λ t l. absurd (omega arith);
+  low = λ p l. refl;
+  mid = λ p l k. refl;
+  high = λ p l. refl;
+}
 
 stood-next : (b : Book) (n : ℕ) (xs ys : List ℕ) (f w : ℕ) → n < 7 → f ≡ cond (standing b (7 - n)) (getD ys (144 + n) 0) 48
     → w ≡ cond (standing b (7 - n)) (getD ys (159 + n) 0) 0 → Stood b n xs ys → Stood b (n + 1) xs (set (set ys (144 + n) f) (159 + n) w)
@@ -38,7 +46,8 @@ stood-next b n xs ys f w l ef ew h =
     record {
       long = length-set (set ys (144 + n) f) (159 + n) w ∙ length-set ys (144 + n) f ∙ long;
       first = λ t k. elim (ℕ-discrete t n) [
-        | yes e ↦ rw e (getD-set-other (set ys (144 + n) f) (159 + n) (144 + n) w 0 (λ q. omega arith) ∙ getD-set-same ys (144 + n) f 0 (omega arith)
+        | yes e ↦ rw e (getD-set-other (set ys (144 + n) f) (159 + n) (144 + n) w 0 (λ q. omega arith)
+            ∙ getD-set-same ys (144 + n) f 0 (omega arith)
             ∙ ef ∙ ap (λ (x : ℕ). cond (standing b (7 - n)) x 48) (h .mid (144 + n) (le-refl _) (omega arith)))
         | no d ↦ other (144 + t) (λ q. d (omega arith)) (λ q. omega arith) ∙ h .first t (omega arith)
       ];
@@ -55,7 +64,8 @@ stood-next b n xs ys f w l ef ew h =
 stood-all : (b : Book) (k n : ℕ) (xs ys : List ℕ) → n + k ≡ 7 → Stood b n xs ys → Stood b 7 xs (stood b k n ys)
 unfolding stood
 stood-all b zero n xs ys e h = let all : n ≡ 7 = omega arith in rw all at h
-stood-all b (suc k) n xs ys e h = stood-all b k (n + 1) xs (settled (standing b (7 - n)) n ys) (omega arith) (stood-next b n xs ys _ _ (omega arith) refl refl h)
+stood-all b (suc k) n xs ys e h = stood-all b k (n + 1) xs (settled (standing b (7 - n)) n ys) (omega arith)
+    (stood-next b n xs ys _ _ (omega arith) refl refl h)
 
 pub stood-made : (b : Book) (xs : List ℕ) → length xs ≡ 166 → Stood b 7 xs (stood b 7 0 xs)
 stood-made b xs long = stood-all b 7 0 xs xs refl (stood-none b xs long)

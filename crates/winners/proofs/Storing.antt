@@ -1,5 +1,5 @@
--- The array store by store: a step of each loop of src/array.rt, and what it is before the first bid. Cited by the proofs of src/array.rt, by
--- Filling.antt and by Preparing.antt. Assumes nothing.
+-- The array store by store: a step of each loop of src/array.rt, and what it is before the first bid. Cited by the proofs of src/array.rt,
+-- by Filling.antt and by Preparing.antt. Assumes nothing.
 use mathlib.Core.Path.{_≡_, refl, _∙_}
 use mathlib.Core.Bool.{Bool, cond}
 use mathlib.Core.List.{List}
@@ -74,13 +74,16 @@ blank-is = record {
 -- one bid more, in front
 pub laid-more : (b : Book) (i t w v u : ℕ) (xs zs : List ℕ) → 0 < i → t ≡ 7 - fitting b .owner (i - 1 + 1) → w ≡ amount-of b (i - 1 + 1)
     → v ≡ packed (bid-at b (i - 1 + 1) .hours) → u ≡ max (getD xs (159 + t) 0) w → laid b i xs ≡ zs
-    → laid b (i - 1) (set (set (set (set (set xs (96 + (i - 1)) (getD xs (144 + t) 0)) (144 + t) (i - 1)) (i - 1) w) (48 + (i - 1)) v) (159 + t) u) ≡ zs
+    → laid b (i - 1) (set (set (set (set (set xs (96 + (i - 1)) (getD xs (144 + t) 0)) (144 + t) (i - 1)) (i - 1) w) (48 + (i - 1)) v)
+    (159 + t) u) ≡ zs
 unfolding laid place-bid
 laid-more b zero t w v u xs zs l et ew ev eu e = absurd (omega arith)
 laid-more b (suc i) t w v u xs zs l et ew ev eu e = let back : suc i - 1 ≡ i = omega arith in rw (eu, ev, ew, et, back) e
 
 -- one client more
-pub stood-more : (b : Book) (t f w : ℕ) (on : Bool) (xs zs : List ℕ) → t < 7 → on ≡ standing b (7 - t) → f ≡ cond on (getD xs (144 + t) 0) 48
-    → w ≡ cond on (getD xs (159 + t) 0) 0 → stood b (7 - t) t xs ≡ zs → stood b (7 - (t + 1)) (t + 1) (set (set xs (144 + t) f) (159 + t) w) ≡ zs
+pub stood-more : (b : Book) (t f w : ℕ) (on : Bool) (xs zs : List ℕ) → t < 7 → on ≡ standing b (7 - t)
+    → f ≡ cond on (getD xs (144 + t) 0) 48
+    → w ≡ cond on (getD xs (159 + t) 0) 0 → stood b (7 - t) t xs ≡ zs
+    → stood b (7 - (t + 1)) (t + 1) (set (set xs (144 + t) f) (159 + t) w) ≡ zs
 unfolding stood
 stood-more b t f w on xs zs l eo ef ew e = let back : 7 - t ≡ suc (7 - (t + 1)) = omega arith in rw (ew, ef, eo) (rw back at e)

@@ -12,7 +12,8 @@ use lib.Dec.{eqb}
 use lib.ListN.{length}
 use Rattle.sets.specs.Sets.{has}
 use Rattle.market.specs.Market.{at}
-use Rattle.book.specs.Layout.{book-in}
+use Rattle.book.specs.Book.{Book}
+use Rattle.book.specs.Sound.{Shaped}
 use Rattle.winners.specs.Greatest.{greatest-without}
 use Rattle.winners.specs.Surplus.{any, picked, surplus, Surplus-is}
 use Rattle.winners.proofs.Greatest.{greatest-value, greatest-fewer, greatest-all}
@@ -23,7 +24,8 @@ unfolding any
 any-true zero p h = absurd (false≢true h)
 any-true (suc n) p h = go (any n p) (p n) refl refl h (any-true n p)
   where
-    go : (a b : Bool) → any n p ≡ a → p n ≡ b → (a || b) ≡ true → (any n p ≡ true → (j : ℕ) × (j < n) × (p j ≡ true)) → (j : ℕ) × (j < suc n) × (p j ≡ true)
+    go : (a b : Bool) → any n p ≡ a → p n ≡ b → (a || b) ≡ true → (any n p ≡ true → (j : ℕ) × (j < n) × (p j ≡ true)) → (j : ℕ)
+        × (j < suc n) × (p j ≡ true)
     go true b e f t k = let (j, l, q) = k e in (j, omega arith, q)
     go false b e f t k = (n, omega arith, f ∙ t)
 
@@ -53,12 +55,12 @@ true-picked cs L c j l h e =
     true-any (length cs) (λ j. has L j && eqb (at cs j) c) j l (and-eq-true-iff (has L j) (eqb (at cs j) c) .1 (h, eq-eqb _ _ e))
 
 -- σ with the rest makes the whole
-pub surplus-is : (bs cs : List ℕ) (L : ℕ) → Surplus-is (book-in bs) cs L (surplus (book-in bs) cs L)
+pub surplus-is : (b : Book) → Shaped b → (cs : List ℕ) (L : ℕ) → Surplus-is b cs L (surplus b cs L)
 unfolding surplus
-surplus-is bs cs L = record {
-  v = greatest-without (book-in bs) (λ c. false);
-  u = greatest-without (book-in bs) (picked cs L);
-  all = greatest-value bs (λ c. false);
-  others = greatest-value bs (picked cs L);
-  makes = rw (greatest-all bs) (omega (arith, greatest-fewer bs (λ c. false) (picked cs L) (λ c h. refl)));
+surplus-is b shaped cs L = record {
+  v = greatest-without b (λ c. false);
+  u = greatest-without b (picked cs L);
+  all = greatest-value b shaped (λ c. false);
+  others = greatest-value b shaped (picked cs L);
+  makes = rw (greatest-all b) (omega (arith, greatest-fewer b shaped (λ c. false) (picked cs L) (λ c h. refl)));
 }

@@ -1,8 +1,16 @@
--- The hours of several kinds as one number: a lane of 16 bits for each kind, the first kind lowest. Cited by the contracts of src/lib.rt, and
--- by the search of the layer above. Assumes nothing: these are definitions.
+-- The hours of several kinds as one number: a lane of 16 bits for each kind, the first kind lowest. Cited by the contracts of src/lib.rt,
+-- and by the search of the layer above. Assumes nothing: these are definitions.
 use mathlib.Core.List.{List, [], _∷_}
 use Prim.Native.Nat.{ℕ, zero, suc, _+_, _*_, _-_, _<_}
 use lib.ListN.{getD}
+
+-- the guards of four lanes: bit 8 of each
+abbrev pub guards : ℕ
+guards = 72058693566333184
+
+-- 255 in each of four lanes: the most that hours asked, or hours used, come to
+abbrev pub lanes-full : ℕ
+lanes-full = 71777214294589695
 
 -- the hours asked
 unfoldable pub packed : List ℕ → ℕ

@@ -1,16 +1,18 @@
-pub mod Worth
-pub mod Surpluses
-pub mod Needs
-pub mod Choosing
-pub mod Chosen
+-- What the contracts say.
 pub mod Combinations
-pub mod Four
 pub mod Greatest
-pub mod Lanes
-pub mod Looks
-pub mod Placement
-pub mod Prepared
-pub mod Searching
 pub mod Surplus
 pub mod Value
-pub mod Values
+pub mod Worth
+pub mod Surpluses
+pub mod Weighed
+-- What only this crate's own contracts and proofs cite: what the search looks up, and what private functions ask.
+pub mod Following
+pub mod ByKind
+pub mod Lanes
+pub mod Looks
+pub mod Listed
+pub mod Owned
+pub mod Places
+pub mod Prepared
+pub mod Searching

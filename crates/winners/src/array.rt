@@ -1,38 +1,44 @@
-// One array for all that the search looks up whoever is discarded: for each bid its weight, its hours in lanes and the next bid of its client;
-// for each client that stands its first bid and the largest weight among its bids.
+// One array for all that the search looks up whoever is discarded: for each bid its weight, its hours in lanes and the next bid of its
+// client; for each client that stands its first bid and the largest weight among its bids. Its places are those of places.rt.
 use crate::lanes;
-use crate::places;
-use book::bytes;
-use book::entries;
-use book::layout;
+use crate::places::CEILINGS;
+use crate::places::END;
+use crate::places::FIRSTS;
+use crate::places::HOURS;
+use crate::places::LARGEST;
+use crate::places::LINKS;
+use crate::places::NO_LINK;
+use book::Book;
 ghost use mathlib.Core.Path.{_≡_};
 ghost use mathlib.Core.Bool.{cond};
-ghost use Prim.Native.Nat.{_-_, _≤_};
+ghost use Prim.Native.Nat.{_*_, _-_, _≤_, _<_};
 ghost use lib.Bits.{bitAnd};
 ghost use lib.Dec.{eqb};
-ghost use lib.ListN.{length};
-ghost use Rattle.book.specs.Layout.{book-in};
-ghost use Rattle.book.specs.Sound.{Sound};
-ghost use Rattle.winners.specs.Combinations.{market};
-ghost use Rattle.winners.specs.Placement.{Placed, Owned, Unsold};
-ghost use Rattle.winners.specs.Looks.{blank, laid, stood, looks-of};
+ghost use lib.ListN.{length, getD};
+ghost use Rattle.book.specs.Book.{supplies};
+ghost use Rattle.book.specs.Lists.{row};
+ghost use Rattle.book.specs.Value.{book-of, sound-number};
+ghost use Rattle.winners.specs.Lanes.{Bytes, guards};
+ghost use Rattle.winners.specs.Places.{no-link, places-end};
+ghost use Rattle.winners.specs.Looks.{blank, laid, stood};
+ghost use Rattle.winners.specs.Searching.{Left, Readied};
 
-// No bid yet: every link leads to none, which is 48, and all else is 0.
-pub(crate) fn blank(looks: &mut [u64; 166])
+// No bid yet: nothing is linked, and all else is 0.
+fn blank(looks: &mut [u64; END])
     ensures { λ _. ⌜ now (looks .exit) ≡ blank ⌝ }
 {
-    *looks = [0u64; 166];
-    let mut t: usize = 96;
-    while t < 152 {
-        looks[t] = 48;
+    *looks = [0u64; END];
+    let mut t: usize = LINKS;
+    while t < CEILINGS {
+        looks[t] = NO_LINK as u64;
         t += 1;
     }
 }
 
-// By the number of clients from it to the sixth, whose a bid is; nobody's, which is 0, where it asks for more than there is.
-fn turn_of(owner: u8, after: u64) -> usize
+// The slot of a bid's client; nobody's, which is 0, where the bid asks for more than there is: then a guard is set in what would be used.
+fn slot_of(owner: u8, after: u64) -> usize
     requires { ⌜ (1 ≤ owner) × (owner ≤ 7) ⌝ }
-    ensures { λ r. ⌜ (r ≡ 7 - cond (eqb (bitAnd after 72058693566333184) 0) owner 7) × (r ≤ 6) ⌝ }
+    ensures { λ r. ⌜ (r ≡ 7 - cond (eqb (bitAnd after guards) 0) owner 7) × (r ≤ 6) ⌝ }
 {
     if lanes::guards_set(after) == 0 {
         7 - owner as usize
@@ -41,66 +47,86 @@ fn turn_of(owner: u8, after: u64) -> usize
     }
 }
 
-// Each bid's weight, which is its amount, from place 48 on its hours in lanes, and from place 96 on the next bid of its client; from place
-// 144 on the first bid of each client, and from place 159 on its largest weight, both by the number of clients from it to the sixth. The
-// bids are passed from the last back; those that ask for more than there is are nobody's.
-fn look_up(book: &[u8], k: usize, m: usize, from: usize, used: u64, looks: &mut [u64; 166])
-    requires { ⌜ Placed (now book) k m from ⌝ }
-    requires { ⌜ Unsold (now book) used ⌝ }
-    requires { ⌜ Owned (market (book-in (now book))) ⌝ }
-    requires { ⌜ length (now looks) ≡ 166 ⌝ }
-    ensures { λ _. ⌜ now (looks .exit) ≡ laid (book-in (now (book .entry))) m (now (looks .entry)) ⌝ }
-    ensures { λ _. ⌜ length (now (looks .exit)) ≡ 166 ⌝ }
+// An amount as a weight.
+fn wide(amount: u32) -> u64
+    ensures { λ r. ⌜ r ≡ amount ⌝ }
 {
-    let mut i = m;
+    amount as u64
+}
+
+// The four hours of the bid at a place.
+fn hours_at(hours: &[u8], i: usize) -> [u8; 4]
+    requires { ⌜ (i < 48) × (length (now hours) ≡ 192) ⌝ }
+    ensures { λ r. ⌜ r ≡ row 4 (4 * i) (λ p. getD (now (hours .entry)) p 0) ⌝ }
+    ensures { λ _. ⌜ Bytes (now (hours .entry)) ⌝ }
+{
+    let at = 4 * i;
+    let a = hours[at];
+    let b = hours[at + 1];
+    let c = hours[at + 2];
+    let d = hours[at + 3];
+    [a, b, c, d]
+}
+
+// All that is stored for the bids: they are passed from the last back, so that each is linked to its client's next. A bid's weight is its
+// amount. Those that ask for more than there is are nobody's.
+fn look_up(book: Book, used: u64, looks: &mut [u64; END])
+    requires { ⌜ sound-number book ≡ 0 ⌝ }
+    requires { ⌜ Left (length (book-of book .kinds)) (supplies (book-of book)) used ⌝ }
+    requires { ⌜ length (now looks) ≡ places-end ⌝ }
+    ensures { λ _. ⌜ now (looks .exit) ≡ laid (book-of book) (book .m) (now (looks .entry)) ⌝ }
+    ensures { λ _. ⌜ length (now (looks .exit)) ≡ places-end ⌝ }
+    ensures { λ _. ⌜ (0 < book .m → Bytes (book .hours)) ⌝ }
+{
+    let client = book.client;
+    let hours = book.hours;
+    let amount = book.amount;
+    let mut i = book.m as usize;
     while 0 < i {
         i = i - 1;
-        let at = places::place(k, from, i);
-        let hours = lanes::packed(k, places::row(book, at + 1));
-        let turn = turn_of(places::owner(book, at), used + hours);
-        let weight = bytes::u32_at(book, at + (k + 1)) as u64;
-        let most = numbers::larger(looks[159 + turn], weight);
-        looks[96 + i] = looks[144 + turn];
-        looks[144 + turn] = i as u64;
+        let asked = lanes::packed(book.k as usize, hours_at(&hours, i));
+        let slot = slot_of(client[i], used + asked);
+        let weight = wide(amount[i]);
+        let most = numbers::larger(looks[LARGEST + slot], weight);
+        looks[LINKS + i] = looks[FIRSTS + slot];
+        looks[FIRSTS + slot] = i as u64;
         looks[i] = weight;
-        looks[48 + i] = hours;
-        looks[159 + turn] = most;
+        looks[HOURS + i] = asked;
+        looks[LARGEST + slot] = most;
     }
 }
 
-// The first bid of a client that counts, and of one that does not none: 48.
+// The first bid of a client that counts; of one that does not, none.
 fn first_own(on: bool, first: u64) -> u64
-    ensures { λ r. ⌜ r ≡ cond on first 48 ⌝ }
+    ensures { λ r. ⌜ r ≡ cond on first no-link ⌝ }
 {
-    if on { first } else { 48 }
+    if on { first } else { NO_LINK as u64 }
 }
 
 // Clients that do not stand have no first bid, and no largest weight.
-fn stand(book: &[u8], looks: &mut [u64; 166])
-    requires { ⌜ length (now looks) ≡ 166 ⌝ }
-    ensures { λ _. ⌜ now (looks .exit) ≡ stood (book-in (now (book .entry))) 7 0 (now (looks .entry)) ⌝ }
+fn stand(book: Book, looks: &mut [u64; END])
+    requires { ⌜ length (now looks) ≡ places-end ⌝ }
+    ensures { λ _. ⌜ now (looks .exit) ≡ stood (book-of book) 7 0 (now (looks .entry)) ⌝ }
 {
     let mut t: usize = 0;
     while t < 7 {
-        let on = entries::is_standing(book, 7 - t);
-        let first = first_own(on, looks[144 + t]);
-        let most = numbers::share(on, looks[159 + t]);
-        looks[144 + t] = first;
-        looks[159 + t] = most;
+        let on = book::is_standing(book, 7 - t);
+        let first = first_own(on, looks[FIRSTS + t]);
+        let most = numbers::share(on, looks[LARGEST + t]);
+        looks[FIRSTS + t] = first;
+        looks[LARGEST + t] = most;
         t += 1;
     }
 }
 
-// All of it for a sound book.
-pub(crate) fn prepare(book: &[u8], used: u64, looks: &mut [u64; 166])
-    requires { ⌜ Sound (now book) ⌝ }
-    requires { ⌜ Unsold (now book) used ⌝ }
-    requires { ⌜ now looks ≡ blank ⌝ }
-    ensures { λ _. ⌜ now (looks .exit) ≡ looks-of (book-in (now (book .entry))) ⌝ }
+// All of it for a sound book. Handed back are the hours used before any bid is taken.
+pub(crate) fn prepare(book: Book, looks: &mut [u64; END]) -> u64
+    requires { ⌜ sound-number book ≡ 0 ⌝ }
+    ensures { λ r. ⌜ Readied (book-of book) r (now (looks .exit)) ⌝ }
 {
-    let k = layout::kinds(book) as usize;
-    let m = layout::bids(book) as usize;
-    let from = layout::bids_place(book) as usize;
-    look_up(book, k, m, from, used, looks);
+    let used = lanes::used(book::supply_of(book));
+    blank(looks);
+    look_up(book, used, looks);
     stand(book, looks);
+    used
 }

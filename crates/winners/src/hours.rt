@@ -1,17 +1,10 @@
 // The hours of a bid against the hours left: four numbers for up to four kinds, of which the first k count.
-//
-// What a client may cite: `fit`, whether the hours asked fit; `rest`, what is left once they are taken; `supply`, the hours for sale. Each
-// takes anything, asks nothing of its caller, and its contract gives its result as a value; the laws of proofs/ cut it to k kinds.
-use book::entries;
 ghost use mathlib.Core.Path.{_≡_};
 ghost use mathlib.Core.Bool.{_||_};
 ghost use Prim.Native.Nat.{_-_};
 ghost use lib.Dec.{leb};
 ghost use lib.ListN.{take};
-ghost use Rattle.book.specs.Book.{supplies};
-ghost use Rattle.book.specs.Layout.{book-in};
 ghost use Rattle.market.specs.Market.{fits, less};
-ghost use Rattle.winners.specs.Four.{four};
 
 // Whether the hours of one kind fit what is left; past the last kind they always do.
 fn kind_fits(k: usize, kind: usize, asked: u8, left: u8) -> bool
@@ -21,7 +14,7 @@ fn kind_fits(k: usize, kind: usize, asked: u8, left: u8) -> bool
 }
 
 // Whether the hours asked of k kinds fit what is left.
-pub fn fit(k: usize, asked: [u8; 4], left: [u8; 4]) -> bool
+pub(crate) fn fit(k: usize, asked: [u8; 4], left: [u8; 4]) -> bool
     ensures { λ r. ⌜ r ≡ fits (take k asked) (take k left) ⌝ }
 {
     if !kind_fits(k, 0, asked[0], left[0]) {
@@ -36,31 +29,20 @@ pub fn fit(k: usize, asked: [u8; 4], left: [u8; 4]) -> bool
     kind_fits(k, 3, asked[3], left[3])
 }
 
-// The difference, but it stops at zero.
+// What is left of one kind.
 fn minus(a: u8, b: u8) -> u8
     ensures { λ r. ⌜ r ≡ a - b ⌝ }
 {
-    if b < a { a - b } else { 0 }
+    numbers::excess(a as u64, b as u64) as u8
 }
 
 // What is left of each kind once the hours asked are taken.
-pub fn rest(asked: [u8; 4], left: [u8; 4]) -> [u8; 4]
+pub(crate) fn rest(asked: [u8; 4], left: [u8; 4]) -> [u8; 4]
     ensures { λ r. ⌜ r ≡ less left asked ⌝ }
 {
     let a = minus(left[0], asked[0]);
     let b = minus(left[1], asked[1]);
     let c = minus(left[2], asked[2]);
     let d = minus(left[3], asked[3]);
-    [a, b, c, d]
-}
-
-// The supply of each kind; 0 past the last.
-pub fn supply(book: &[u8]) -> [u8; 4]
-    ensures { λ r. ⌜ r ≡ four (supplies (book-in (now (book .entry)))) ⌝ }
-{
-    let a = entries::supply(book, 0);
-    let b = entries::supply(book, 1);
-    let c = entries::supply(book, 2);
-    let d = entries::supply(book, 3);
     [a, b, c, d]
 }

@@ -1,23 +1,28 @@
-// Layer 2: weighing combinations, over the bytes of a book.
+// Layer 2: weighing combinations of a book that is a value.
 //
-// What a client may cite: `greatest_value`, with clients discarded; `surpluses`, σ of every set of a list of clients. Each takes any bytes,
-// asks nothing of its caller, and its contract gives every field of its answer as a value (specs/). They rest on the greatest values of
-// crates/values.
+// What a client may cite: `weigh`, whether bids are a combination of greatest value, with v and σ of every set of them; `greatest_of`, the
+// greatest value with clients discarded; `surpluses_of`, v and σ of every set of a list of clients. Each takes any value, puts
+// `book::sound` to it first, asks nothing of its caller, and its contract gives every field of its answer as a value (specs/). For callers
+// with the bytes of a book there are `greatest_value` and `surpluses`, each by `book::read` and one of these. Laws for the layers above:
+// proofs/Books.antt, Greatest.antt, Surplus.antt and Most.antt.
+mod array;
+mod choice;
+mod hours;
+mod lanes;
 mod lists;
+mod places;
+mod search;
 mod table;
+mod tops;
 mod value;
+mod values;
+mod weighing;
 
 pub use table::SigmaTable;
 pub use table::surpluses;
+pub use table::surpluses_of;
 pub use value::Worth;
+pub use value::greatest_of;
 pub use value::greatest_value;
-
-mod array;
-pub mod choice;
-mod hours;
-mod lanes;
-mod lookups;
-mod places;
-mod search;
-mod tops;
-mod values;
+pub use weighing::Weighed;
+pub use weighing::weigh;

@@ -1,10 +1,9 @@
 // Sets of a list of clients: whether the list rises, and the discard bytes of the clients that the sets' numbers pick.
-use book::flags;
 ghost use mathlib.Core.Path.{_≡_};
 ghost use mathlib.Core.Bool.{_&&_};
 ghost use lib.Dec.{leb};
 ghost use lib.ListN.{length, take};
-ghost use Rattle.winners.specs.Needs.{Listed, Room, Doubled, Discards};
+ghost use Rattle.winners.specs.Listed.{Listed, Room, Doubled, Discards};
 ghost use Rattle.winners.specs.Surpluses.{rising-to};
 
 // Whether the list has at most six clients, up to n and strictly rising.
@@ -19,7 +18,7 @@ pub(crate) fn is_rising(clients: [u8; 6], count: usize, n: usize) -> bool
     let mut i: usize = 0;
     while i < count {
         let next = clients[i] as usize;
-        ok = flags::both(ok, flags::both(last < next, next <= n));
+        ok = numbers::both(ok, numbers::both(last < next, next <= n));
         last = next;
         i += 1;
     }

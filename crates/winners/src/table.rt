@@ -1,37 +1,19 @@
-// v and σ of every set of a list of clients: questions 1 to 5 once, and each set weighed once.
+// v and σ of every set of a list of clients: each set is weighed once.
+use crate::array;
 use crate::lists;
+use crate::places::END;
 use crate::values;
-use book::layout;
-use book::questions;
+use book::Book;
 ghost use mathlib.Core.Path.{_≡_};
-ghost use mathlib.Core.Bool.{cond};
-ghost use Prim.Native.Nat.{_^_, _≤_};
-ghost use lib.Dec.{eqb};
-ghost use lib.ListN.{length, replicate};
-ghost use Rattle.book.specs.Questions.{book-refusal};
-ghost use Rattle.winners.specs.Needs.{Differences};
-ghost use Rattle.winners.specs.Surpluses.{Surpluses-are};
+ghost use lib.ListN.{replicate};
+ghost use Rattle.book.specs.Value.{book-of, sound-number};
+ghost use Rattle.winners.specs.Surpluses.{Surpluses-are, All-surpluses-are};
 
 #[repr(C)]
 pub struct SigmaTable {
     pub number: u32,
     pub value: u64,
     pub sigma: [u64; 64],
-}
-
-// σ by set number, in place of the values without each set.
-fn to_sigma(count: usize, values: &mut [u64; 64])
-    requires { ⌜ count ≤ 6 ⌝ }
-    requires { ⌜ length (now values) ≡ 64 ⌝ }
-    ensures { λ _. ⌜ Differences (now (values .entry)) (2 ^ count) (now (values .exit)) ⌝ }
-{
-    let end = numbers::smaller(1 << count, 64);
-    let v = values[0];
-    let mut set: usize = 0;
-    while set < end {
-        values[set] = numbers::excess(v, values[set]);
-        set += 1;
-    }
 }
 
 // A refusal has its number and zeros.
@@ -45,37 +27,37 @@ fn refused(number: u32) -> SigmaTable
     }
 }
 
-// The number for a list that is none: the book's own refusal comes first.
-fn unlisted(book: &[u8]) -> u32
-    ensures { λ r. ⌜ r ≡ cond (eqb (book-refusal (now (book .entry))) 0) 16 (book-refusal (now (book .entry))) ⌝ }
+// Of a book that is a value.
+pub fn surpluses_of(book: Book, clients: [u8; 6], count: usize) -> SigmaTable
+    ensures { λ r. ⌜ Surpluses-are (sound-number book) (book-of book) clients count (r .number) (r .value) (r .sigma) ⌝ }
 {
-    let number = questions::refusal(book);
+    let number = book::sound(book);
     if 0 < number {
-        return number as u32;
+        return refused(number as u32);
     }
-    16
-}
-
-pub fn surpluses(book: &[u8], clients: [u8; 6], count: usize) -> SigmaTable
-    ensures { λ r. ⌜ Surpluses-are (now (book .entry)) clients count (r .number) (r .value) (r .sigma) ⌝ }
-{
-    if !lists::is_rising(clients, count, 6) {
-        return refused(unlisted(book));
-    }
-    let mut found = values::values_of(book, lists::discards(clients, count), 1 << count);
-    if 0 < found.number {
-        return refused(found.number);
-    }
-    let n = layout::clients(book) as usize;
-    if !lists::is_rising(clients, count, n) {
+    if !lists::is_rising(clients, count, book.n as usize) {
         return refused(16);
     }
-    let value = found.values[0];
-    to_sigma(count, &mut found.values);
-    let sigma = found.values;
+    let mut looks = [0u64; END];
+    let used = array::prepare(book, &mut looks);
+    let value = values::value_by(0, used, &mut looks);
+    let discards = lists::discards(clients, count);
+    let sigma = values::sigma_by(value, discards, numbers::sets_end(count), used, &mut looks);
     SigmaTable {
         number: 0,
         value,
         sigma,
     }
+}
+
+// Of all clients of the book that bytes hold, whatever follows it.
+pub fn surpluses(book: &[u8]) -> SigmaTable
+    ensures { λ r. ⌜ All-surpluses-are (now (book .entry)) (r .number) (r .value) (r .sigma) ⌝ }
+{
+    let reading = book::read(book);
+    if 0 < reading.number {
+        return refused(reading.number as u32);
+    }
+    let held = reading.book;
+    surpluses_of(held, [1, 2, 3, 4, 5, 6], held.n as usize)
 }

@@ -1,7 +1,12 @@
-// The greatest value with clients discarded: questions 1 to 5, 16, and the value.
+// The greatest value with clients discarded: the book's own number, 16, and the value.
+use crate::array;
+use crate::places::END;
 use crate::values;
-use book::layout;
+use book::Book;
 ghost use mathlib.Core.Path.{_≡_};
+ghost use Rattle.book.specs.Layout.{book-in};
+ghost use Rattle.book.specs.Questions.{book-refusal};
+ghost use Rattle.book.specs.Value.{book-of, sound-number};
 ghost use Rattle.winners.specs.Worth.{Worth-is};
 
 #[repr(C)]
@@ -17,19 +22,33 @@ fn refused(number: u32) -> Worth
     Worth { number, value: 0 }
 }
 
-pub fn greatest_value(book: &[u8], discard: u8) -> Worth
-    ensures { λ r. ⌜ Worth-is (now (book .entry)) discard (r .number) (r .value) ⌝ }
+// Of a book that is a value.
+pub fn greatest_of(book: Book, discard: u8) -> Worth
+    ensures { λ r. ⌜ Worth-is (sound-number book) (book-of book) discard (r .number) (r .value) ⌝ }
 {
-    let found = values::value_of(book, discard);
-    if 0 < found.number {
-        return refused(found.number);
+    let number = book::sound(book);
+    if 0 < number {
+        return refused(number as u32);
     }
-    let n = layout::clients(book);
-    if 0 < (discard >> n) {
+    if 0 < (discard >> book.n) {
         return refused(16);
     }
+    let mut looks = [0u64; END];
+    let used = array::prepare(book, &mut looks);
     Worth {
         number: 0,
-        value: found.value as u32,
+        value: values::value_by(discard, used, &mut looks) as u32,
     }
+}
+
+// Of the book that bytes hold, whatever follows it.
+pub fn greatest_value(book: &[u8], discard: u8) -> Worth
+    ensures { λ r. ⌜ Worth-is (book-refusal (now (book .entry))) (book-in (now (book .entry))) discard (r .number) (r .value) ⌝ }
+{
+    let reading = book::read(book);
+    if 0 < reading.number {
+        return refused(reading.number as u32);
+    }
+    let held = reading.book;
+    greatest_of(held, discard)
 }

@@ -1,103 +1,42 @@
-// Greatest values with clients discarded: what the search looks up, made once, and for each discard byte the search from floor 0.
-use crate::lookups;
+// Greatest values with clients discarded, by the array that is made once for a book: for each discard byte its ceilings, and the search
+// from floor 0. Whichever sound book the array is of, the values are its.
+use crate::places::END;
 use crate::search;
 use crate::tops;
-ghost use mathlib.Core.Path.{_≡_};
 ghost use Prim.Native.Nat.{_≤_};
-ghost use lib.ListN.{replicate};
-ghost use Rattle.book.specs.Book.{supplies};
-ghost use Rattle.book.specs.Layout.{K-of, book-in};
-ghost use Rattle.book.specs.Sound.{Sound};
-ghost use Rattle.winners.specs.Greatest.{greatest};
-ghost use Rattle.winners.specs.Prepared.{Prepared};
-ghost use Rattle.winners.specs.Searching.{Left};
-ghost use Rattle.winners.specs.Values.{values-of, Value-is, Values-are};
+ghost use Rattle.book.specs.Book.{Book};
+ghost use Rattle.winners.specs.Searching.{Readied, Value-found, Sigma-found};
 
-// One greatest value; 0 after a refusal.
-pub struct Value {
-    pub number: u32,
-    pub value: u64,
-}
-
-// The greatest values by place of the discard bytes; zeros past the last and after a refusal.
-pub struct Values {
-    pub number: u32,
-    pub values: [u64; 64],
-}
-
-// The greatest value of a sound book, by what the search looks up; clients that a book does not have reach nothing. Where the ceiling is 0 there is
-// nothing to search for.
-fn value_by(book: &[u8], discard: u8, used: u64, looks: &mut [u64; 166]) -> u64
-    requires { ⌜ Sound (now book) ⌝ }
-    requires { ⌜ Left (K-of (now book)) (supplies (book-in (now book))) used ⌝ }
-    requires { ⌜ Prepared (now book) (now looks) ⌝ }
-    ensures { λ r. ⌜ (r ≡ greatest (book-in (now (book .entry))) discard) × (r ≤ 6000000) ⌝ }
-    ensures { λ _. ⌜ Prepared (now (book .entry)) (now (looks .exit)) ⌝ }
+// The greatest value for one discard byte; clients that a book does not have reach nothing. Where the ceiling is 0 there is nothing to
+// search for.
+pub(crate) fn value_by(discard: u8, used: u64, looks: &mut [u64; END]) -> u64
+    requires { ⌜ ((b : Book) × Readied b used (now looks)) ⌝ }
+    ensures { λ r. ⌜ ((b : Book) → Readied b used (now (looks .entry)) → Value-found b discard used (now (looks .exit)) r) ⌝ }
 {
-    let most = tops::turn(discard, looks);
+    let most = tops::set_ceilings(discard, looks);
     if most == 0 {
         return 0;
     }
     search::search_from(6, used, 0, looks)
 }
 
-// The greatest value of any bytes for one discard byte.
-pub fn value_of(book: &[u8], discard: u8) -> Value
-    ensures { λ r. ⌜ Value-is (now (book .entry)) discard (r .number) (r .value) ⌝ }
-{
-    let mut looks = [0u64; 166];
-    let made = lookups::lay_out(book, &mut looks);
-    let number = made.number;
-    if 0 < number {
-        return Value { number, value: 0 };
-    }
-    let value = value_by(book, discard, made.used, &mut looks);
-    Value { number, value }
-}
-
-// The values of the first of 64 discard bytes, of a sound book.
-fn each(
-    book: &[u8],
+// What the value of all exceeds the value without each set by, for the sets below `end`; the discard bytes are those of the sets.
+pub(crate) fn sigma_by(
+    value: u64,
     discards: [u8; 64],
-    count: usize,
+    end: usize,
     used: u64,
-    looks: &mut [u64; 166],
-    values: &mut [u64; 64],
-)
-    requires { ⌜ Sound (now book) ⌝ }
-    requires { ⌜ Left (K-of (now book)) (supplies (book-in (now book))) used ⌝ }
-    requires { ⌜ Prepared (now book) (now looks) ⌝ }
-    requires { ⌜ now values ≡ replicate 64 0 ⌝ }
-    ensures { λ _. ⌜ now (values .exit) ≡ values-of (now (book .entry)) discards count ⌝ }
+    looks: &mut [u64; END],
+) -> [u64; 64]
+    requires { ⌜ ((b : Book) × Readied b used (now looks)) ⌝ }
+    requires { ⌜ (1 ≤ end) × (end ≤ 64) ⌝ }
+    ensures { λ r. ⌜ ((b : Book) → Readied b used (now (looks .entry)) → Sigma-found b value discards end r) ⌝ }
 {
-    let end = numbers::smaller(count, 64);
-    let mut j: usize = 0;
-    while j < end {
-        values[j] = value_by(book, discards[j], used, looks);
-        j += 1;
+    let mut sigma = [0u64; 64];
+    let mut set: usize = 1;
+    while set < end {
+        sigma[set] = numbers::excess(value, value_by(discards[set], used, looks));
+        set += 1;
     }
-}
-
-// The greatest values of any bytes for the first of 64 discard bytes.
-pub fn values_of(book: &[u8], discards: [u8; 64], count: usize) -> Values
-    ensures { λ r. ⌜ Values-are (now (book .entry)) discards count (r .number) (r .values) ⌝ }
-{
-    let mut looks = [0u64; 166];
-    let made = lookups::lay_out(book, &mut looks);
-    let mut found = Values {
-        number: made.number,
-        values: [0; 64],
-    };
-    if 0 < found.number {
-        return found;
-    }
-    each(
-        book,
-        discards,
-        count,
-        made.used,
-        &mut looks,
-        &mut found.values,
-    );
-    found
+    sigma
 }

@@ -1,15 +1,15 @@
 //! A branch and bound in Rust over bids sorted by amount: the best bids first, the amounts still to come as the bound.
 
-use crate::shape::{fits, rest, Shape};
+use crate::book::{fits, rest, Book};
 
 struct Bid {
     client: usize,
-    at: usize,
+    hours: [u8; 4],
     amount: u64,
 }
 
 /// From bid `next` on, with the clients in `free` and the hours left; `found` is the best so far.
-fn branch(s: &Shape, bids: &[Bid], next: usize, free: u8, left: [u8; 4], value: u64, found: &mut u64) {
+fn branch(bids: &[Bid], next: usize, free: u8, left: [u8; 4], value: u64, found: &mut u64) {
     *found = (*found).max(value);
     // the bids fall by amount, so the first of each free client is its largest
     let mut bound = value;
@@ -27,9 +27,9 @@ fn branch(s: &Shape, bids: &[Bid], next: usize, free: u8, left: [u8; 4], value: 
         return;
     }
     for (i, bid) in bids.iter().enumerate().skip(next) {
-        if free >> bid.client & 1 == 1 && fits(s.hours(bid.at), &left) {
-            let left = rest(s.hours(bid.at), left);
-            branch(s, bids, i + 1, free & !(1 << bid.client), left, value + bid.amount, found);
+        if free >> bid.client & 1 == 1 && fits(bid.hours, left) {
+            let left = rest(bid.hours, left);
+            branch(bids, i + 1, free & !(1 << bid.client), left, value + bid.amount, found);
         }
         if value + bid.amount * u64::from(free.count_ones()) <= *found {
             return;
@@ -38,20 +38,17 @@ fn branch(s: &Shape, bids: &[Bid], next: usize, free: u8, left: [u8; 4], value: 
 }
 
 /// The greatest value of a sound book with clients discarded.
-pub fn greatest_value(book: &[u8], discard: u8) -> u64 {
-    let shape = Shape::of(book);
-    let mut bids = Vec::with_capacity(shape.bids);
-    for i in 0..shape.bids {
-        let at = shape.place(i);
-        let client = book[at] as usize;
-        if shape.stays(client, discard) {
-            let amount = u64::from(shape.amount(at));
-            bids.push(Bid { client, at, amount });
+pub fn greatest_value(book: &Book, discard: u8) -> u64 {
+    let mut bids = Vec::with_capacity(book.bids);
+    for i in 0..book.bids {
+        let client = usize::from(book.client[i]);
+        if book.stays(client, discard) {
+            bids.push(Bid { client, hours: book.hours[i], amount: u64::from(book.amount[i]) });
         }
     }
     bids.sort_unstable_by(|a, b| b.amount.cmp(&a.amount));
     let free = bids.iter().fold(0, |set, bid| set | 1 << bid.client);
     let mut found = 0;
-    branch(&shape, &bids, 0, free, shape.supply(), 0, &mut found);
+    branch(&bids, 0, free, book.supply, 0, &mut found);
     found
 }

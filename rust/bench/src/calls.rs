@@ -1,44 +1,46 @@
 //! Calls that are accepted: a book, the bids that win, and an acceptable sheet for them; and each in many forms, with its clients and bids
 //! numbered otherwise, so that a processor cannot learn one call's branches by heart.
 
+use crate::book::{self, fits, rest};
 use crate::books::Kind;
 use crate::search::greatest;
-use crate::shape::{fits, rest, Shape};
 use generate::{acceptable_sheet, write, Rng};
 use reference::{Book, Sheet, Weights};
 
 /// The greatest value of the clients from this one on with the hours left, and the bids that come to it, numbered from 1.
-fn best(s: &Shape, client: usize, left: [u8; 4]) -> (u64, Vec<usize>) {
-    if s.clients < client {
+fn best(book: &book::Book, client: usize, left: [u8; 4]) -> (u64, Vec<usize>) {
+    if book.clients < client {
         return (0, Vec::new());
     }
-    let mut top = best(s, client + 1, left);
-    for bid in 0..s.bids {
-        let at = s.place(bid);
-        if usize::from(s.book[at]) == client && s.stays(client, 0) && fits(s.hours(at), &left) {
-            let (more, mut bids) = best(s, client + 1, rest(s.hours(at), left));
+    let mut top = best(book, client + 1, left);
+    for bid in 0..book.bids {
+        if usize::from(book.client[bid]) == client && book.stays(client, 0) && fits(book.hours[bid], left) {
+            let (more, mut bids) = best(book, client + 1, rest(book.hours[bid], left));
             bids.insert(0, bid + 1);
-            top = top.max((u64::from(s.amount(at)) + more, bids));
+            top = top.max((u64::from(book.amount[bid]) + more, bids));
         }
     }
     top
 }
 
+/// The book as what is measured reads it.
+fn as_read(book: &Book) -> book::Book {
+    book::read(&write::book(book)).unwrap_or_else(|number| panic!("a book is refused: {number}"))
+}
+
 /// Bids of greatest value, by rising client.
 fn winners(book: &Book) -> Vec<usize> {
-    let bytes = write::book(book);
-    let shape = Shape::of(&bytes);
-    best(&shape, 1, shape.supply()).1
+    let read = as_read(book);
+    best(&read, 1, read.supply).1
 }
 
 /// v, σ and ρ, by the search in Rust.
 fn weights(book: &Book, winners: &[usize]) -> Weights {
-    let bytes = write::book(book);
-    let shape = Shape::of(&bytes);
-    let v = greatest(&shape, 0);
+    let read = as_read(book);
+    let v = greatest(&read, 0);
     let client = |k: usize| book.bids[winners[k] - 1].client - 1;
     let discard = |set: usize| (0..winners.len()).fold(0, |byte, k| byte | (set >> k & 1) << client(k));
-    let sigma = |set: usize| i128::from(v - greatest(&shape, discard(set) as u8));
+    let sigma = |set: usize| i128::from(v - greatest(&read, discard(set) as u8));
     let rho = |&bid: &usize| book.bids[bid - 1].amount - book.reserves(&book.bids[bid - 1]);
     Weights {
         v: i128::from(v),

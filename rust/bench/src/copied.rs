@@ -1,8 +1,8 @@
 //! Our search put into Rust line by line, with its bounds checks: one array with the same things at the same places, and the same recursion
 //! with the same four arguments.
 
+use crate::book::Book;
 use crate::search::Surpluses;
-use crate::shape::Shape;
 
 const NONE: u64 = 48;
 const GUARDS: u64 = 0x0100_0100_0100_0100;
@@ -25,21 +25,20 @@ fn in_lanes(k: usize, [a, b, c, d]: [u8; 4]) -> u64 {
     (u64::from(a) | u64::from(b) << 16 | u64::from(c) << 32 | u64::from(d) << 48) & lanes_to
 }
 
-fn look_up(s: &Shape, used: u64) -> Looks {
+fn look_up(book: &Book, used: u64) -> Looks {
     let mut looks = [0; 166];
     looks[LINKS..TOPS].fill(NONE);
-    for i in (0..s.bids).rev() {
-        let at = s.place(i);
-        let hours = in_lanes(s.kinds, s.book[at + 1..at + 5].try_into().unwrap());
-        let turn = if (used + hours) & GUARDS == 0 { 7 - s.book[at] as usize } else { 0 };
-        looks[i] = u64::from(s.amount(at));
+    for i in (0..book.bids).rev() {
+        let hours = in_lanes(book.kinds, book.hours[i]);
+        let turn = if (used + hours) & GUARDS == 0 { 7 - usize::from(book.client[i]) } else { 0 };
+        looks[i] = u64::from(book.amount[i]);
         looks[HOURS + i] = hours;
         looks[LINKS + i] = looks[FIRST + turn];
         looks[FIRST + turn] = i as u64;
         looks[MOST + turn] = looks[MOST + turn].max(looks[i]);
     }
-    for (client, &status) in s.statuses().iter().enumerate() {
-        if status != 0 {
+    for (client, &cap) in book.caps[..book.clients].iter().enumerate() {
+        if cap == 0 {
             looks[FIRST + 6 - client] = NONE;
             looks[MOST + 6 - client] = 0;
         }
@@ -81,14 +80,14 @@ fn search(looks: &Looks, ahead: usize, used: u64, floor: u64) -> u64 {
 
 /// The answer that ours gives, handed out as ours is: by a call.
 #[inline(never)]
-pub fn surpluses(shape: &Shape) -> Surpluses {
-    Surpluses::of(greatest_of(shape, 0..64))
+pub fn surpluses(book: &Book) -> Surpluses {
+    Surpluses::of(greatest_of(book, 0..64))
 }
 
 /// The greatest values with each of the sets of clients discarded, looked up once.
-fn greatest_of(shape: &Shape, discards: impl Iterator<Item = u8>) -> [u64; 64] {
-    let used = FULL - in_lanes(4, shape.supply());
-    let mut looks = look_up(shape, used);
+fn greatest_of(book: &Book, discards: impl Iterator<Item = u8>) -> [u64; 64] {
+    let used = FULL - in_lanes(4, book.supply);
+    let mut looks = look_up(book, used);
     let mut values = [0; 64];
     for (value, discard) in values.iter_mut().zip(discards) {
         let most = turn(discard, &mut looks);

@@ -1,9 +1,8 @@
 //! Judging a sheet in Rust: questions 1 to 15 in their order, and the prices.
 
+use crate::book::{self, fits, rest, Book};
 use crate::certificate::{self, Bounds};
-use crate::questions::{self, reserves_of};
 use crate::search::{greatest, greatest_of};
-use crate::shape::{fits, rest, Shape};
 use crate::sheet::{self, Sheet};
 use certifier::Prices;
 
@@ -13,20 +12,19 @@ struct Chosen {
     value: u64,
 }
 
-fn combination(book: &Shape, sheet: &Sheet) -> Option<Chosen> {
+fn combination(book: &Book, sheet: &Sheet) -> Option<Chosen> {
     let mut chosen = Chosen { clients: [0; 6], value: 0 };
-    let mut left = book.supply();
+    let mut left = book.supply;
     let mut last = 0;
     for j in 0..sheet.w {
         let bid = usize::from(sheet.bids[j]).checked_sub(1).filter(|&bid| bid < book.bids)?;
-        let at = book.place(bid);
-        let client = book.book[at];
-        if client <= last || !book.stays(usize::from(client), 0) || !fits(book.hours(at), &left) {
+        let client = book.client[bid];
+        if client <= last || !book.stays(usize::from(client), 0) || !fits(book.hours[bid], left) {
             return None;
         }
-        left = rest(book.hours(at), left);
+        left = rest(book.hours[bid], left);
         chosen.clients[j] = client;
-        chosen.value += u64::from(book.amount(at));
+        chosen.value += u64::from(book.amount[bid]);
         last = client;
     }
     Some(chosen)
@@ -38,7 +36,7 @@ fn discard_of(clients: &[u8], set: usize) -> u8 {
     members.fold(0, |byte, (_, client)| byte | 1 << (client - 1))
 }
 
-fn surpluses(book: &Shape, clients: &[u8], v: u64) -> [u64; 64] {
+fn surpluses(book: &Book, clients: &[u8], v: u64) -> [u64; 64] {
     let sets = 1 << clients.len();
     let mut sigma = greatest_of(book, (0..sets).map(|set| discard_of(clients, set)));
     for value in &mut sigma[..sets] {
@@ -47,22 +45,19 @@ fn surpluses(book: &Shape, clients: &[u8], v: u64) -> [u64; 64] {
     sigma
 }
 
-fn winning_amount(book: &Shape, sheet: &Sheet, j: usize) -> u64 {
-    u64::from(book.amount(book.place(usize::from(sheet.bids[j]) - 1)))
+fn winning_amount(book: &Book, sheet: &Sheet, j: usize) -> u64 {
+    u64::from(book.amount[usize::from(sheet.bids[j]) - 1])
 }
 
-fn above_reserves(book: &Shape, sheet: &Sheet) -> [u64; 6] {
-    let reserves = book.reserves();
+fn above_reserves(book: &Book, sheet: &Sheet) -> [u64; 6] {
     let mut rho = [0; 6];
     for j in 0..sheet.w {
-        let at = book.place(usize::from(sheet.bids[j]) - 1);
-        let bid = &book.book[at..at + book.kinds + 5];
-        rho[j] = winning_amount(book, sheet, j) - reserves_of(bid, &reserves);
+        rho[j] = winning_amount(book, sheet, j) - book.reserves(usize::from(sheet.bids[j]) - 1);
     }
     rho
 }
 
-fn accepted(book: &Shape, sheet: &Sheet) -> Prices {
+fn accepted(book: &Book, sheet: &Sheet) -> Prices {
     let mut prices = [0; 6];
     for j in 0..sheet.w {
         prices[j] = sheet.q * winning_amount(book, sheet, j) - sheet.x[j];
@@ -71,8 +66,8 @@ fn accepted(book: &Shape, sheet: &Sheet) -> Prices {
 }
 
 fn judged(input: &[u8]) -> Result<Prices, u8> {
-    let book = questions::sound(input)?;
-    let sheet = sheet::read(&input[book.book.len()..], book.clients).ok_or(6)?;
+    let book = book::read(input)?;
+    let sheet = sheet::read(&input[book.length()..], book.clients).ok_or(6)?;
     if !certificate::in_range(&sheet) {
         return Err(7);
     }

@@ -1,5 +1,6 @@
 //! Times the proved library against Rust in one run, and prints tables of ratios; it stops where answers differ.
 
+mod book;
 mod books;
 mod branch;
 mod calls;
@@ -10,9 +11,8 @@ mod growth;
 mod judge;
 mod judging;
 mod plain;
-mod questions;
+mod reader;
 mod search;
-mod shape;
 mod sheet;
 mod timing;
 mod values;
@@ -20,16 +20,27 @@ mod values;
 #[cfg(test)]
 mod alike;
 
+/// The tables, by the names that pick some of them.
+const TABLES: [(&str, fn()); 5] = [
+    ("values", values::table),
+    ("accepted", judging::accepted_table),
+    ("refused", judging::refused_table),
+    ("bids", growth::bids_table),
+    ("winners", growth::winners_table),
+];
+
+/// Prints the tables that the arguments name, or all.
 fn main() {
-    let tables = [
-        values::table,
-        judging::accepted_table,
-        judging::refused_table,
-        growth::bids_table,
-        growth::winners_table,
-    ];
-    for table in tables {
-        table();
-        println!();
+    let picked: Vec<String> = std::env::args().skip(1).collect();
+    let known = |name: &String| TABLES.iter().any(|(table, _)| table == name);
+    if let Some(other) = picked.iter().find(|name| !known(name)) {
+        eprintln!("bench: there is no table '{other}', but {}", TABLES.map(|(name, _)| name).join(", "));
+        std::process::exit(2);
+    }
+    for (name, table) in TABLES {
+        if picked.is_empty() || picked.iter().any(|other| other == name) {
+            table();
+            println!();
+        }
     }
 }

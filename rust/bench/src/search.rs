@@ -3,8 +3,7 @@
 //! 255 less those left, so that more is asked than is left where a lane goes over 255 and its guard bit is set. One test tells whether a bid fits and
 //! can raise the best.
 
-use crate::questions;
-use crate::shape::Shape;
+use crate::book::{self, Book};
 
 const NONE: usize = 48;
 const GUARDS: u64 = 0x0100_0100_0100_0100;
@@ -19,24 +18,23 @@ struct Lookups {
     most: [u64; 7],
 }
 
-fn in_lanes(hours: &[u8]) -> u64 {
+fn in_lanes(hours: [u8; 4]) -> u64 {
     hours.iter().rev().fold(0, |lanes, &hours| lanes << 16 | u64::from(hours))
 }
 
 /// A bid that asks for more than there is goes to turn 0, which nobody has.
-fn look_up(s: &Shape, used: u64) -> Lookups {
+fn look_up(book: &Book, used: u64) -> Lookups {
     let mut l = Lookups { weights: [0; 48], hours: [0; 48], links: [NONE; 56], most: [0; 7] };
-    for i in (0..s.bids).rev() {
-        let at = s.place(i);
-        l.weights[i] = u64::from(s.amount(at));
-        l.hours[i] = in_lanes(s.hours(at));
-        let turn = if (used + l.hours[i]) & GUARDS == 0 { 7 - s.book[at] as usize } else { 0 };
+    for i in (0..book.bids).rev() {
+        l.weights[i] = u64::from(book.amount[i]);
+        l.hours[i] = in_lanes(book.hours[i]);
+        let turn = if (used + l.hours[i]) & GUARDS == 0 { 7 - usize::from(book.client[i]) } else { 0 };
         l.links[i] = l.links[48 + turn];
         l.links[48 + turn] = i;
         l.most[turn] = l.most[turn].max(l.weights[i]);
     }
-    for (client, &status) in s.statuses().iter().enumerate() {
-        if status != 0 {
+    for (client, &cap) in book.caps[..book.clients].iter().enumerate() {
+        if cap == 0 {
             l.most[6 - client] = 0;
         }
     }
@@ -76,8 +74,8 @@ fn search(l: &Lookups, tops: &Tops, ahead: usize, used: u64, floor: u64) -> u64 
 }
 
 /// The hours used before any bid is taken.
-fn used_first(shape: &Shape) -> u64 {
-    FULL - in_lanes(&shape.supply())
+fn used_first(book: &Book) -> u64 {
+    FULL - in_lanes(book.supply)
 }
 
 fn greatest_by(lookups: &Lookups, used: u64, discard: u8) -> u64 {
@@ -86,15 +84,15 @@ fn greatest_by(lookups: &Lookups, used: u64, discard: u8) -> u64 {
 }
 
 /// The greatest value with clients discarded.
-pub fn greatest(shape: &Shape, discard: u8) -> u64 {
-    let used = used_first(shape);
-    greatest_by(&look_up(shape, used), used, discard)
+pub fn greatest(book: &Book, discard: u8) -> u64 {
+    let used = used_first(book);
+    greatest_by(&look_up(book, used), used, discard)
 }
 
 /// The greatest values with each of the sets of clients discarded, looked up once.
-pub fn greatest_of(shape: &Shape, discards: impl Iterator<Item = u8>) -> [u64; 64] {
-    let used = used_first(shape);
-    let lookups = look_up(shape, used);
+pub fn greatest_of(book: &Book, discards: impl Iterator<Item = u8>) -> [u64; 64] {
+    let used = used_first(book);
+    let lookups = look_up(book, used);
     let mut values = [0; 64];
     for (value, discard) in values.iter_mut().zip(discards) {
         *value = greatest_by(&lookups, used, discard);
@@ -121,15 +119,15 @@ impl Surpluses {
 
 /// The answer that ours gives, handed out as ours is: by a call.
 #[inline(never)]
-pub fn surpluses(shape: &Shape) -> Surpluses {
-    Surpluses::of(greatest_of(shape, 0..64))
+pub fn surpluses(book: &Book) -> Surpluses {
+    Surpluses::of(greatest_of(book, 0..64))
 }
 
 /// The greatest value of any bytes, as ours: questions 1 to 5 and 16 first.
 pub fn asked_value(bytes: &[u8], discard: u8) -> Result<u64, u8> {
-    let shape = questions::sound(bytes)?;
-    if 0 < discard >> shape.clients {
+    let book = book::read(bytes)?;
+    if 0 < discard >> book.clients {
         return Err(16);
     }
-    Ok(greatest(&shape, discard))
+    Ok(greatest(&book, discard))
 }

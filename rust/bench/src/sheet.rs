@@ -1,5 +1,7 @@
 //! Question 6 and the sheet's numbers in arrays, in Rust.
 
+use crate::reader::Reader;
+
 /// A sheet with w winners; places from w, or from 2^w, up are 0.
 pub struct Sheet {
     pub w: usize,
@@ -13,25 +15,6 @@ pub struct Sheet {
     pub t: [u64; 6],
     pub y: [u64; 64],
     pub u: [u64; 64],
-}
-
-/// The bytes not yet read.
-struct Reader<'a>(&'a [u8]);
-
-impl Reader<'_> {
-    fn bytes<const N: usize>(&mut self) -> [u8; N] {
-        let (field, rest) = self.0.split_first_chunk().unwrap();
-        self.0 = rest;
-        *field
-    }
-
-    fn four(&mut self) -> u64 {
-        u64::from(u32::from_be_bytes(self.bytes()))
-    }
-
-    fn eight(&mut self) -> u64 {
-        u64::from_be_bytes(self.bytes())
-    }
 }
 
 /// The number of winners, where question 6 is answered yes.

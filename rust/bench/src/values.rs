@@ -1,9 +1,9 @@
 //! The table of greatest values: all 64 of full books of each kind.
 
+use crate::book::{self, Book};
 use crate::books::{Kind, KINDS};
 use crate::timing::{work, Rounds, Work};
-use crate::shape::Shape;
-use crate::{branch, copied, plain, questions, search};
+use crate::{branch, copied, plain, search};
 use std::hint::black_box;
 
 /// How many books a turn goes through where a program takes much longer than ours.
@@ -21,19 +21,19 @@ pub fn ours(book: &[u8]) -> u64 {
     64 * table.value - table.sigma.iter().sum::<u64>()
 }
 
-/// The same by the search in Rust, with no question put.
-fn searched(book: &[u8]) -> u64 {
-    search::surpluses(&Shape::of(black_box(book))).sum()
+/// The same by the search in Rust, over a book that was read before.
+fn searched(book: &Book) -> u64 {
+    search::surpluses(black_box(book)).sum()
 }
 
-/// The same by the search in Rust, with questions 1 to 5 first.
+/// The same by the search in Rust, reading the book and putting questions 1 to 5 first.
 pub fn asked(book: &[u8]) -> u64 {
-    questions::sound(black_box(book)).map_or(0, |shape| search::surpluses(&shape).sum())
+    book::read(black_box(book)).map_or(0, |book| search::surpluses(&book).sum())
 }
 
-/// The same by our search put into Rust line by line, with questions 1 to 5 first.
+/// The same by our search put into Rust line by line, reading the book and putting questions 1 to 5 first.
 fn copied(book: &[u8]) -> u64 {
-    questions::sound(black_box(book)).map_or(0, |shape| copied::surpluses(&shape).sum())
+    book::read(black_box(book)).map_or(0, |book| copied::surpluses(&book).sum())
 }
 
 /// The same one by one, by the proved library and by the search in Rust, with the questions put at each call.
@@ -45,31 +45,52 @@ fn asked_one_by_one(book: &[u8]) -> u64 {
     all_sets(|discard| search::asked_value(black_box(book), discard).unwrap_or(0))
 }
 
+fn plainly(book: &Book) -> u64 {
+    all_sets(|discard| plain::greatest_value(black_box(book), discard))
+}
+
+fn by_branch(book: &Book) -> u64 {
+    all_sets(|discard| branch::greatest_value(black_box(book), discard))
+}
+
+/// A book as bytes, and as it was read from them, for what puts no question.
+struct Given {
+    bytes: Vec<u8>,
+    book: Book,
+}
+
+impl Given {
+    fn of(bytes: Vec<u8>) -> Given {
+        let book = book::read(&bytes).unwrap_or_else(|number| panic!("a book is refused: {number}"));
+        Given { bytes, book }
+    }
+}
+
+type Way = fn(&Given) -> u64;
+
+const OURS: Way = |given| ours(&given.bytes);
+const WAYS: &[Way] = &[
+    OURS,
+    |given| searched(&given.book),
+    |given| asked(&given.bytes),
+    |given| copied(&given.bytes),
+    |given| ours_one_by_one(&given.bytes),
+    |given| asked_one_by_one(&given.bytes),
+];
+const SLOW: &[Way] = &[OURS, |given| plainly(&given.book), |given| by_branch(&given.book)];
+
 /// Every way must give the same sum over the books.
-fn assert_alike(name: &str, books: &[Vec<u8>], ways: &[fn(&[u8]) -> u64]) {
+fn assert_alike(name: &str, books: &[Given], ways: &[Way]) {
     for book in books {
         for way in ways {
-            assert_eq!(ours(book), way(book), "greatest values differ: {name}");
+            assert_eq!(OURS(book), way(book), "greatest values differ: {name}");
         }
     }
 }
 
-fn plainly(book: &[u8]) -> u64 {
-    all_sets(|discard| plain::greatest_value(black_box(book), discard))
-}
-
-fn by_branch(book: &[u8]) -> u64 {
-    all_sets(|discard| branch::greatest_value(black_box(book), discard))
-}
-
-type Ways = &'static [fn(&[u8]) -> u64];
-
-const WAYS: Ways = &[ours, searched, asked, copied, ours_one_by_one, asked_one_by_one];
-const SLOW: Ways = &[ours, plainly, by_branch];
-
 /// Some rounds more of each way over all the books.
-fn go_on(rounds: &mut Rounds, books: &[Vec<u8>], ways: Ways) {
-    let over_all = |&way: &fn(&[u8]) -> u64| work(move || books.iter().map(|book| way(book)).sum::<u64>()) as Work;
+fn go_on(rounds: &mut Rounds, books: &[Given], ways: &[Way]) {
+    let over_all = |&way: &Way| work(move || books.iter().map(way).sum::<u64>()) as Work;
     let works: Vec<Work> = ways.iter().map(over_all).collect();
     rounds.go_on(&works);
 }
@@ -77,8 +98,8 @@ fn go_on(rounds: &mut Rounds, books: &[Vec<u8>], ways: Ways) {
 /// A kind of book, what is measured of it, and the times so far.
 struct Measured {
     kind: Kind,
-    many: Vec<Vec<u8>>,
-    few: Vec<Vec<u8>>,
+    many: Vec<Given>,
+    few: Vec<Given>,
     rounds_of_many: Rounds,
     rounds_of_few: Rounds,
 }
@@ -86,7 +107,8 @@ struct Measured {
 impl Measured {
     /// Every way must answer alike.
     fn of(kind: Kind) -> Measured {
-        let (many, few) = (kind.books(kind.many), kind.books(FEW));
+        let given = |count: u64| kind.books(count).into_iter().map(Given::of).collect();
+        let (many, few): (Vec<Given>, Vec<Given>) = (given(kind.many), given(FEW));
         assert_alike(kind.name, &many, WAYS);
         assert_alike(kind.name, &few, SLOW);
         Measured { kind, many, few, rounds_of_many: Rounds::default(), rounds_of_few: Rounds::default() }
@@ -107,8 +129,8 @@ impl Measured {
 
 pub fn table() {
     println!("All 64 greatest values of full books, a book at a call: our time over that in Rust of the plain recursion, of a branch");
-    println!("and bound, and of the same search without and with questions 1 to 5, which ours puts too; of one value at a call, with the");
-    println!("questions put at each, over the same in Rust; and of all 64 over our search put into Rust line by line, with the questions.");
+    println!("and bound, and of the same search, without and with reading the book and questions 1 to 5, which ours does too; of one value at a");
+    println!("call, with the reading at each, over the same in Rust; and of all 64 over our search put into Rust line by line, with the reading.");
     println!();
     let [a, b, c, d, e, f] = ["plain", "branch", "search", "asked", "one by one", "line by line"];
     println!("{:22}{a:>10}{b:>8}{c:>8}{d:>8}{e:>12}{f:>14}", "kind of book");

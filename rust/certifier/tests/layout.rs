@@ -15,18 +15,29 @@ struct Layout {
     fields: Vec<Field>,
 }
 
-fn source(path: &str) -> String {
-    let path = Path::new(env!("CARGO_MANIFEST_DIR")).join("../../crates").join(path);
-    std::fs::read_to_string(&path).unwrap_or_else(|error| panic!("{}: {error}", path.display()))
+/// All files of a crate's code.
+fn source(name: &str) -> String {
+    let folder = Path::new(env!("CARGO_MANIFEST_DIR")).join("../../crates").join(name).join("src");
+    let files = std::fs::read_dir(&folder).unwrap_or_else(|error| panic!("{}: {error}", folder.display()));
+    files.map(|file| std::fs::read_to_string(file.expect("a file").path()).expect("text")).collect()
+}
+
+/// A length as the source has it: a number, or the name of a constant.
+fn count(source: &str, length: &str) -> usize {
+    let named = || {
+        let start = format!("const {length}: usize = ");
+        let (_, after) = source.split_once(&start).unwrap_or_else(|| panic!("no such constant: {length}"));
+        after.split_once(';').expect("the constant ends").0.parse().expect("the constant is a number")
+    };
+    length.parse().unwrap_or_else(|_| named())
 }
 
 /// The size and the alignment of a type as the source names it.
-fn measure(name: &str) -> (usize, usize) {
+fn measure(source: &str, name: &str) -> (usize, usize) {
     if let Some(array) = name.strip_prefix('[').and_then(|name| name.strip_suffix(']')) {
-        let (item, count) = array.split_once(';').expect("an array has a length");
-        let (size, align) = measure(item.trim());
-        let count: usize = count.trim().parse().expect("the length is a number");
-        return (size * count, align);
+        let (item, length) = array.split_once(';').expect("an array has a length");
+        let (size, align) = measure(source, item.trim());
+        return (size * count(source, length.trim()), align);
     }
     let size = match name {
         "u8" => 1,
@@ -56,7 +67,7 @@ fn fields_of(source: &str, name: &str) -> Vec<(String, String)> {
 fn expected(source: &str, name: &str) -> Layout {
     let mut layout = Layout { size: 0, align: 1, fields: Vec::new() };
     for (field, of) in fields_of(source, name) {
-        let (size, align) = measure(&of);
+        let (size, align) = measure(source, &of);
         let offset = layout.size.next_multiple_of(align);
         layout.fields.push((field, offset, size));
         layout.size = offset + size;
@@ -78,31 +89,31 @@ macro_rules! declared {
 #[test]
 fn worth_is_laid_out_as_in_the_source() {
     let declared = declared!(Worth { number: u32, value: u32 });
-    assert_eq!(declared, expected(&source("winners/src/value.rt"), "Worth"));
+    assert_eq!(declared, expected(&source("winners"), "Worth"));
 }
 
 #[test]
 fn surpluses_are_laid_out_as_in_the_source() {
     let declared = declared!(SigmaTable { number: u32, value: u64, sigma: [u64; 64] });
-    assert_eq!(declared, expected(&source("winners/src/table.rt"), "SigmaTable"));
+    assert_eq!(declared, expected(&source("winners"), "SigmaTable"));
 }
 
 #[test]
 fn prices_are_laid_out_as_in_the_source() {
     let declared = declared!(Prices { number: u32, w: u32, q: u32, prices: [u64; 6] });
-    assert_eq!(declared, expected(&source("prices/src/lib.rt"), "Prices"));
+    assert_eq!(declared, expected(&source("judge"), "Prices"));
 }
 
 #[test]
 fn text_is_laid_out_as_in_the_source() {
     let declared = declared!(Text { bytes: [u8; 128], len: usize });
-    assert_eq!(declared, expected(&source("text/src/lib.rt"), "Text"));
+    assert_eq!(declared, expected(&source("text"), "Text"));
 }
 
 /// A slice is handed over as a pointer and a length, which is how the declarations have it.
 #[test]
 fn the_source_exports_what_is_declared() {
-    let source = source("exports/src/lib.rt");
+    let source = source("exports");
     let exported: Vec<&str> = source.lines().filter_map(|line| line.strip_prefix("pub extern \"C\" fn ")).collect();
     let declared = [
         "gimletsorrel_greatest_value(book: &[u8], discard: u8) -> Worth",

@@ -50,14 +50,16 @@ in-a-row c σ ρ b p q r last third second first =
 
 returns-2 : tie.Need-returns-2
 returns-2 c =
-    let here = c .before .before .before .before .before .before .before in
+    let last = c .before .before .before in
+    let near = last .before in
+    let totals = near .before in
+    let covered = totals .before in
+    let here = covered .before in
     let a = start here .args in
     let bounds = here .before .bounded .ensures ∙ bounded-number-first (certificate (a .f)) (at (a .sigma)) (at (a .rho)) (ready here) in
     in-a-row (certificate (a .f)) (at (a .sigma)) (at (a .rho)) bounds
-    (c .before .before .before .before .before .before .all-covered .ensures _ _)
-    (c .before .before .before .before .before .totals-meet .ensures)
-    (c .before .before .before .before .all-balanced .ensures _)
-    (c .before .before .before .answer .ensures) (c .before .before .answer2 .ensures) (c .before .answer3 .ensures) (c .answer4 .ensures)
+    (covered .all-covered .ensures _ _) (totals .totals-meet .ensures) (near .all-balanced .ensures _)
+    (last .answer .ensures) (c .before .before .answer2 .ensures) (c .before .answer3 .ensures) (c .answer4 .ensures)
     ∙ sym (balances-number-first (certificate (a .f)) (at (a .sigma)) (at (a .rho)) (ready here))
 
 pub balances-spec : {M : Type 1} → statement M

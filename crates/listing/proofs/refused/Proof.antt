@@ -11,9 +11,12 @@ use Rattle.listing.proofs.refused.Tie as tie
 returns : tie.Need-returns
 unfolding refused-word refused-text
 returns c =
+    let number = c .before in
+    let word = number .before in
+    let empty = word .before .before in
     part-more _ _ _ refused-word _
-    (c .before .before .push-word .ensures ∙ ap (λ (t : Text). pushes t refused-word) (c .before .before .before .before .empty .ensures))
-    (field-more _ _ _ _ _ (c .before .push-field .ensures) (line-end _ _ (c .push .ensures)))
+    (word .push-word .ensures ∙ ap (λ (t : Text). pushes t refused-word) (empty .empty .ensures))
+    (field-more _ _ _ _ _ (number .push-field .ensures) (line-end _ _ (c .push .ensures)))
 
 pub refused-spec : {M : Type 1} → statement M
 refused-spec =

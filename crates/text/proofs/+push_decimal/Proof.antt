@@ -6,9 +6,9 @@ use mathlib.Core.Path.{_≡_}
 use borrow.Fn.Kinds.{In}
 use borrow.Fn.PlainCycle.{Measures, is, falls, and}
 use Rattle.text.specs.declared.Text.{Text}
-use Rattle.text.specs.Decimal.{decimal}
+use Rattle.text.specs.Decimal.{ascii-zero, decimal}
 use Rattle.text.specs.Text.{pushed, pushes}
-use Rattle.text.proofs.Decimal.{decimal-small, decimal-large}
+use Rattle.text.proofs.Decimal.{decimal-one, decimal-more}
 use Rattle.text.proofs.Pushes.{pushes-snoc}
 use Rattle.text.proofs.push_decimal.Reads as reads
 use Rattle.text.proofs.push_decimal.Kinds as kinds
@@ -19,14 +19,14 @@ use Rattle.text.proofs.+push_decimal.{statement}
 use Rattle.text.proofs.+push_decimal.Tie.{close}
 
 -- below ten the last digit is all
-small : (t r : Text) (n d : ℕ) → n < 10 → d ≡ 48 + n % 10 → r ≡ pushed t d → r ≡ pushes t (decimal n)
+one-digit : (t r : Text) (n d : ℕ) → n < 10 → d ≡ ascii-zero + n % 10 → r ≡ pushed t d → r ≡ pushes t (decimal n)
 unfolding pushes
-small t r n d below last out = rw (out, last, mod-eq-of-lt below, decimal-small n below)
+one-digit t r n d below last out = rw (out, last, mod-eq-of-lt below, decimal-one n below)
 
 -- any other number: the digits of its tenth are there, and the last one comes behind them
-large : (t u r : Text) (n d : ℕ) → 10 ≤ n → u ≡ pushes t (decimal (n / 10))
-    → d ≡ 48 + n % 10 → r ≡ pushed u d → r ≡ pushes t (decimal n)
-large t u r n d above front last out = rw (out, front, last, decimal-large n above, pushes-snoc)
+more-digits : (t u r : Text) (n d : ℕ) → 10 ≤ n → u ≡ pushes t (decimal (n / 10))
+    → d ≡ ascii-zero + n % 10 → r ≡ pushed u d → r ≡ pushes t (decimal n)
+more-digits t u r n d above front last out = rw (out, front, last, decimal-more n above, pushes-snoc)
 
 -- the number falls
 abbrev μ : Measures 0 kinds.ps ℕ
@@ -64,12 +64,14 @@ push-requires-2 k c κs = tt
 
 returns : (k : ℕ) → lts.Need-returns (told k) (given k) reads.Post
 returns k c =
-    small _ _ (c .before .before .before .args .n) _ (c .before .before .if1 .taken) (c .before .last-digit .ensures) (c .push .ensures)
+    one-digit _ _ (c .before .before .before .args .n) _ (c .before .before .if1 .taken) (c .before .last-digit .ensures) (c .push .ensures)
 
 returns-2 : (k : ℕ) → lts.Need-returns-2 (told k) (given k) reads.Post
 returns-2 k c =
-    large _ _ _ (c .before .before .before .before .args .n) _ (c .before .before .before .if1 .left)
-    (c .before .before .push-decimal .ensures) (c .before .last-digit2 .ensures) (c .push2 .ensures)
+    let front = c .before .before in
+    let large = front .before in
+    more-digits _ _ _ (large .before .args .n) _ (large .if1 .left)
+    (front .push-decimal .ensures) (c .before .last-digit2 .ensures) (c .push2 .ensures)
 
 pub +push-decimal-spec : {M : Type 1} → statement M
 +push-decimal-spec =

@@ -6,8 +6,8 @@ use lib.Seq.{length-take-le}
 use Rattle.vectors.proofs.run_line.Statement.{statement}
 use Rattle.vectors.proofs.run_line.Tie as tie
 
-slice-aggregate-print : tie.Need-slice-aggregate-print
-slice-aggregate-print c = sym (length-take-le _ _ (search needs))
+slice-aggregate-answer : tie.Need-slice-aggregate-answer
+slice-aggregate-answer c = sym (length-take-le _ _ (search needs))
 
 pub run-line-spec : {M : Type 1} → statement M
 run-line-spec =
@@ -28,7 +28,7 @@ run-line-spec =
     (λ c κs. search needs)
     (λ c. search needs)
     (λ c. search needs)
-    slice-aggregate-print
+    slice-aggregate-answer
     (λ c κs. search needs)
     (λ c. search needs)
     (λ c κs. search needs)

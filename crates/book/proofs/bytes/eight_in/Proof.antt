@@ -8,4 +8,14 @@ returns : tie.Need-returns
 returns c = rw (c .before .four-in .ensures, c .four-in2 .ensures) (field-join _ 4 4 _)
 
 pub eight-in-spec : {M : Type 1} → statement M
-eight-in-spec = tie.close (tie.spec (λ c κs. search needs) (λ c. search needs) (λ c. search needs) (λ c κs. search needs) (λ c. search needs) (λ c. search needs) (λ c. search needs) returns)
+eight-in-spec =
+    tie.close
+    (tie.spec
+    (λ c κs. search needs)
+    (λ c. search needs)
+    (λ c. search needs)
+    (λ c κs. search needs)
+    (λ c. search needs)
+    (λ c. search needs)
+    (λ c. search needs)
+    returns)

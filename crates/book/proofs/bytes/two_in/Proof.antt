@@ -8,4 +8,14 @@ returns : tie.Need-returns
 returns c = rw (c .before .byte-in .ensures, c .byte-in2 .ensures) (field-two _ _)
 
 pub two-in-spec : {M : Type 1} → statement M
-two-in-spec = tie.close (tie.spec (λ c κs. search needs) (λ c. search needs) (λ c. search needs) (λ c κs. search needs) (λ c. search needs) (λ c. search needs) (λ c. search needs) returns)
+two-in-spec =
+    tie.close
+    (tie.spec
+    (λ c κs. search needs)
+    (λ c. search needs)
+    (λ c. search needs)
+    (λ c κs. search needs)
+    (λ c. search needs)
+    (λ c. search needs)
+    (λ c. search needs)
+    returns)

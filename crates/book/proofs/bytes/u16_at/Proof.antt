@@ -9,4 +9,5 @@ requires : tie.Need-two-in-requires
 requires c κs = leb-true _ _ (sym (c .before .has-room .ensures) ∙ c .if1 .taken)
 
 pub u16-at-spec : {M : Type 1} → statement M
-u16-at-spec = tie.close (tie.spec (λ c κs. search needs) requires (λ c. search needs) (λ c κs. search needs) (λ c. search needs) (λ c. search needs))
+u16-at-spec =
+    tie.close (tie.spec (λ c κs. search needs) requires (λ c. search needs) (λ c κs. search needs) (λ c. search needs) (λ c. search needs))

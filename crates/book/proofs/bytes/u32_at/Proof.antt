@@ -9,4 +9,5 @@ requires : tie.Need-four-in-requires
 requires c κs = leb-true _ _ (sym (c .before .has-room .ensures) ∙ c .if1 .taken)
 
 pub u32-at-spec : {M : Type 1} → statement M
-u32-at-spec = tie.close (tie.spec (λ c κs. search needs) requires (λ c. search needs) (λ c κs. search needs) (λ c. search needs) (λ c. search needs))
+u32-at-spec =
+    tie.close (tie.spec (λ c κs. search needs) requires (λ c. search needs) (λ c κs. search needs) (λ c. search needs) (λ c. search needs))

@@ -57,8 +57,9 @@ slack-all c σ ρ e f = rw (and-assoc (test slack-sets c σ ρ) (test slack-rese
 returns-3 : tie.Need-returns-3
 unfolding bounded-number
 returns-3 c =
-    let a = start (c .before .before) .args in
-    rw (ranged (c .before .before .before .before), fitting (c .before .before))
+    let here = c .before .before in
+    let a = start here .args in
+    rw (ranged (here .before .before), fitting here)
     (slack-all (certificate (a .f)) (at (a .sigma)) (at (a .rho)) (c .sets-number .ensures _) (c .before .winners-slack .ensures _))
 
 pub bounded-spec : {M : Type 1} → statement M

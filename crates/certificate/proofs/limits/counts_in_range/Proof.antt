@@ -8,10 +8,10 @@ use Rattle.certificate.proofs.limits.counts_in_range.Tie as tie
 
 returns : tie.Need-returns
 returns c =
-    let q = c .before .before .before .scale-in-range .ensures in
-    let s = c .before .scale-in-range2 .ensures in
+    let s = c .before in
+    let q = s .before .before in
     both-eq (c .both2 .ensures)
-    (both-eq {a = leb (c .before .before .before .before .args .w) 6} (c .before .before .both .ensures) refl q) s
+    (both-eq {a = leb (q .before .args .w) 6} (s .before .both .ensures) refl (q .scale-in-range .ensures)) (s .scale-in-range2 .ensures)
 
 pub counts-in-range-spec : {M : Type 1} → statement M
 counts-in-range-spec =

@@ -26,20 +26,27 @@ returns c =
     in-range-refused (certificate (c .before .before .args .f))
     (sym (c .before .counts-in-range .ensures) ∙ not-true _ (c .if1 .taken))
 
+-- the counts are in range, and each array has been taken out
+abbrev counting : (c : tie.After-u) → tie.Else1
+counting c = c .before .before .before .before .before .before
+
 winners-in-range-requires : tie.Need-winners-in-range-requires
-winners-in-range-requires c κs = few (c .before .before .before .before .before .before)
+winners-in-range-requires c κs = few (counting c)
 
 sets-in-range-requires : tie.Need-sets-in-range-requires
-sets-in-range-requires c κs = few (c .before .before .before .before .before .before .before)
+sets-in-range-requires c κs = few (counting (c .before))
+
+abbrev sets : (c : tie.After-both2) → tie.After-sets-in-range
+sets c = c .before .before .before
+
+abbrev counts : (c : tie.After-both2) → tie.Else1
+counts c = counting (sets c .before .before)
 
 returns-2 : tie.Need-returns-2
 returns-2 c =
-    in-range-rest (certificate (figures (c .before .before .before .before .before .before .before .before .before .before .before)))
-    (counted (c .before .before .before .before .before .before .before .before .before .before .before))
+    in-range-rest (certificate (figures (counts c))) (counted (counts c))
     (both-eq (c .both2 .ensures)
-    (both-eq (c .before .before .both .ensures)
-    (c .before .before .before .before .winners-in-range .ensures)
-    (c .before .before .before .sets-in-range .ensures))
+    (both-eq (c .before .before .both .ensures) (sets c .before .winners-in-range .ensures) (sets c .sets-in-range .ensures))
     (c .before .g-in-range .ensures))
 
 pub in-range-spec : {M : Type 1} → statement M

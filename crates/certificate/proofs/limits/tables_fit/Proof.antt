@@ -13,8 +13,10 @@ returns c = rw (lt-leb (c .before .args .w) 6 (c .if1 .taken))
 returns-2 : tie.Need-returns-2
 unfolding tables-fit
 returns-2 c =
-    rw (le-leb (c .before .before .before .before .args .w) 6 (c .before .before .before .if1 .left))
-    (both-eq (c .both .ensures) (c .before .before .sets-at-most .ensures) (c .before .winners-at-most .ensures))
+    let first = c .before .before in
+    let few = first .before in
+    rw (le-leb (few .before .args .w) 6 (few .if1 .left))
+    (both-eq (c .both .ensures) (first .sets-at-most .ensures) (c .before .winners-at-most .ensures))
 
 pub tables-fit-spec : {M : Type 1} → statement M
 tables-fit-spec =

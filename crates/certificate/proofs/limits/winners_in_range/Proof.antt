@@ -6,11 +6,14 @@ use Rattle.certificate.proofs.limits.winners_in_range.Tie as tie
 
 returns : tie.Need-returns
 returns c =
-    let x = c .before .before .before .before .before .before .winners-at-most .ensures in
-    let z = c .before .before .before .before .before .winners-at-most2 .ensures in
-    let r = c .before .before .before .before .winners-at-most3 .ensures in
-    let t = c .before .before .before .winners-at-most4 .ensures in
-    both-eq (c .both3 .ensures) (both-eq (c .before .both2 .ensures) (both-eq (c .before .before .both .ensures) x z) r) t
+    let t = c .before .before .before in
+    let r = t .before in
+    let z = r .before in
+    let x = z .before in
+    both-eq (c .both3 .ensures)
+    (both-eq (c .before .both2 .ensures)
+    (both-eq (c .before .before .both .ensures) (x .winners-at-most .ensures) (z .winners-at-most2 .ensures))
+    (r .winners-at-most3 .ensures)) (t .winners-at-most4 .ensures)
 
 pub winners-in-range-spec : {M : Type 1} → statement M
 winners-in-range-spec =

@@ -6,6 +6,7 @@ use borrow.Author.Needs.{needs}
 use lib.Dec.{leb}
 use Rattle.certificate.specs.Figures.{at}
 use Rattle.pricing.specs.Ranges.{sets-at-most}
+use Rattle.numbers.proofs.Shifts.{few-sets}
 use Rattle.certificate.proofs.Steps.{every-before, every-before-none, every-before-more, every-before-end}
 use Rattle.certificate.proofs.most.sets_at_most.Statement.{statement}
 use Rattle.certificate.proofs.most.sets_at_most.Tie as tie
@@ -26,7 +27,10 @@ loop-again c =
 
 returns : tie.Need-returns Inv-loop μ-loop
 unfolding sets-at-most
-returns c = every-before-end _ _ (omega arith) (omega arith) (c .before .loop .inv .2)
+returns c =
+    let loop = c .before in
+    let all = few-sets (loop .before .before .pre) (loop .before .sets-end .ensures .0) in
+    every-before-end _ _ (omega (arith, all)) (omega (arith, all)) (loop .loop .inv .2)
 
 pub sets-at-most-spec : {M : Type 1} → statement M
 sets-at-most-spec =

@@ -4,7 +4,8 @@ use Prim.Native.Nat.{_-_, _*_, _%_, _^_, _≤_, _<_}
 use Rattle.sets.specs.Sets.{single}
 use Rattle.pricing.specs.Questions.{every}
 use Rattle.certificate.specs.Figures.{at}
-use Rattle.certificate.proofs.Steps.{shifted, power-most, every-more, every-end}
+use Rattle.numbers.proofs.Shifts.{shifted, power-most}
+use Rattle.certificate.proofs.Steps.{every-more, every-end}
 use lib.Dec.{eqb}
 use lib.Pow.{pow-lt}
 use Rattle.certificate.proofs.Balance.{claimed, carried, stationary-balance}
@@ -70,9 +71,9 @@ loop-again c = (
 
 returns : tie.Need-returns Inv-loop μ-loop
 returns c =
-    let args = c .before .before .before .before .before .before .args in
-    λ ρ. every-end _ (c .before .loop .inv .0) (c .loop-test .left) (c .before .loop .inv .1)
-    ∙ stationary-balance (args .f) (at (args .t2)) ρ
+    let loop = c .before in
+    let args = loop .before .before .before .before .before .args in
+    λ ρ. every-end _ (loop .loop .inv .0) (c .loop-test .left) (loop .loop .inv .1) ∙ stationary-balance (args .f) (at (args .t2)) ρ
 
 pub all-balanced-spec : {M : Type 1} → statement M
 all-balanced-spec =

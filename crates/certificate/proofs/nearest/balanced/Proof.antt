@@ -1,23 +1,25 @@
 -- `nearest::balanced` meets its contract: no sum is above 10^14. Assumes nothing.
-use Prim.Native.Nat.{_*_, _^_, _≤_}
+use Prim.Native.Nat.{_*_, _≤_}
 use native.Mathlib.Nat.{mul-le-mul}
+use Rattle.pricing.specs.Ranges.{most-scale}
+use Rattle.certificate.specs.Bounds.{most-sigma}
 use Rattle.certificate.proofs.Signed.{signed-magnitude}
 use native.Mathlib.Omega.{arith}
 use borrow.Author.Needs.{needs}
 use Rattle.certificate.proofs.nearest.balanced.Statement.{statement}
 use Rattle.certificate.proofs.nearest.balanced.Tie as tie
 
-product : (c : tie.Start) → c .args .q * c .args .sigma ≤ 6 * 10 ^ 10
-product c = mul-le-mul (c .pre .q-most) (c .pre .σ-most)
+product-most : (c : tie.Start) → c .args .q * c .args .sigma ≤ most-scale * most-sigma
+product-most c = mul-le-mul (c .pre .q-most) (c .pre .σ-most)
 
 mul-result : tie.Need-mul-result
-mul-result c = omega (arith, product c)
+mul-result c = omega (arith, product-most c)
 
 add-result : tie.Need-add-result
-add-result c = omega (arith, product c)
+add-result c = omega (arith, product-most c)
 
 add-result-2 : tie.Need-add-result-2
-add-result-2 c = omega (arith, product (c .before), signed-magnitude (c .before .args .g))
+add-result-2 c = omega (arith, product-most (c .before), signed-magnitude (c .before .args .g))
 
 add-result-3 : tie.Need-add-result-3
 add-result-3 c = omega (arith, signed-magnitude (c .before .before .args .g))

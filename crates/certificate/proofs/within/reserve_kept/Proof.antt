@@ -1,9 +1,11 @@
 -- `within::reserve_kept` meets its contract. The invariant: `ok` is the test of the winners passed. Assumes nothing.
 use mathlib.Core.Path.{_≡_, refl}
-use Prim.Native.Nat.{_-_, _*_, _^_, _≤_}
+use Prim.Native.Nat.{_-_, _*_, _≤_}
 use native.Mathlib.Nat.{mul-le-mul}
 use lib.Dec.{leb}
 use Rattle.pricing.specs.Questions.{every}
+use Rattle.pricing.specs.Ranges.{most-scale}
+use Rattle.certificate.specs.Bounds.{most-rho}
 use Rattle.certificate.specs.Figures.{at}
 use Rattle.certificate.proofs.Steps.{every-more, every-end}
 use Rattle.certificate.specs.DiscountRefusals.{reserve-kept}
@@ -19,15 +21,16 @@ abbrev μ-loop : tie.MeasureT-loop
 μ-loop w q x rho ok₀ j₀ ok j = w - j
 
 -- the bound at hand is in range
-bound : (c : tie.In-loop Inv-loop μ-loop) → c .before .before .args .q * at (c .before .before .args .t4) (c .before .loop .j) ≤ 10 ^ 10
-bound c = mul-le-mul (c .before .before .pre .q-most) (c .before .before .pre .ρ-most _ (c .loop-test .taken))
+bound-most : (c : tie.In-loop Inv-loop μ-loop) →
+    c .before .before .args .q * at (c .before .before .args .t4) (c .before .loop .j) ≤ most-scale * most-rho
+bound-most c = mul-le-mul (c .before .before .pre .q-most) (c .before .before .pre .ρ-most _ (c .loop-test .taken))
 
 loop-holds : tie.Need-loop-holds Inv-loop μ-loop
 unfolding every
 loop-holds c = (search needs, refl)
 
 mul-both-3 : tie.Need-mul-both-3 Inv-loop μ-loop
-mul-both-3 c = omega (arith, bound c)
+mul-both-3 c = omega (arith, bound-most c)
 
 loop-again : tie.Need-loop-again Inv-loop μ-loop
 loop-again c = (search needs, every-more _ _ (c .both .ensures) (c .before .before .loop .inv .1) refl)

@@ -5,10 +5,17 @@ use Rattle.judge.proofs.chain.certificate_number.Statement.{statement}
 use Rattle.judge.proofs.chain.certificate_number.Tie as tie
 
 returns : tie.Need-returns
-returns c = ten-no _ _ _ _ (c .before .before .before .before .before .pre) (c .before .before .reserves-of .result) (c .before .before .reserves-of .ensures) _ (c .before .reserve .ensures) (c .if1 .taken)
+returns c =
+    let rho = c .before .before in
+    let start = rho .before .before in
+    ten-no _ _ _ _ (start .pre) (rho .reserves-of .result) (rho .reserves-of .ensures) _ (c .before .reserve .ensures) (c .if1 .taken)
 
 returns-2 : tie.Need-returns-2
-returns-2 c = later _ _ _ _ (c .before .before .before .before .before .before .pre) (c .before .before .before .reserves-of .result) (c .before .before .before .reserves-of .ensures) _ _ (c .before .before .reserve .ensures) (c .before .if1 .left) (c .balances .ensures)
+returns-2 c =
+    let rho = c .before .before .before in
+    let start = rho .before .before in
+    later _ _ _ _ (start .pre) (rho .reserves-of .result) (rho .reserves-of .ensures) _ _
+    (c .before .before .reserve .ensures) (c .before .if1 .left) (c .balances .ensures)
 
 pub certificate-number-spec : {M : Type 1} → statement M
 certificate-number-spec =

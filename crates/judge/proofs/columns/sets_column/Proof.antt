@@ -7,7 +7,7 @@ use Rattle.book.specs.Bytes.{field}
 use Rattle.demands.specs.Sheet.{set-place}
 use Rattle.sets.proofs.Filled.{Filled, filled-zero, filled-next}
 use Rattle.judge.specs.Columns.{width}
-use Rattle.judge.proofs.Filled.{filled-reads, non-empty, non-empty-at, empty-none, sets-filled}
+use Rattle.judge.proofs.ReadColumns.{filled-reads, non-empty, non-empty-at, empty-none, sets-filled}
 use borrow.Author.Needs.{needs}
 use Rattle.judge.proofs.columns.sets_column.Statement.{statement}
 use Rattle.judge.proofs.columns.sets_column.Tie as tie
@@ -33,9 +33,9 @@ loop-again c =
 
 returns : tie.Need-returns Inv-loop μ-loop
 returns c =
-    let s = c .before .before .before .before in
-    let few = ap (λ (n : ℕ). 2 ^ n) (min-eq-left (s .pre .few)) in
-    let end = 2 ^ s .args .w in
+    let start = c .before .before .before .before in
+    let few = ap (λ (n : ℕ). 2 ^ n) (min-eq-left (start .pre .few)) in
+    let end = 2 ^ start .args .w in
     record { reads = filled-reads _ _ _ end _ (omega (arith, few)) (omega (arith, few)) (c .before .loop .inv .2) ∙ sets-filled _ _ }
 
 pub sets-column-spec : {M : Type 1} → statement M

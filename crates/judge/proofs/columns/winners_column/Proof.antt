@@ -5,7 +5,7 @@ use Rattle.book.specs.Bytes.{field}
 use Rattle.demands.specs.Sheet.{winner-place}
 use Rattle.sets.proofs.Filled.{Filled, filled-none, filled-next}
 use Rattle.judge.specs.Columns.{width}
-use Rattle.judge.proofs.Filled.{filled-reads}
+use Rattle.judge.proofs.ReadColumns.{filled-reads}
 use borrow.Author.Needs.{needs}
 use Rattle.judge.proofs.columns.winners_column.Statement.{statement}
 use Rattle.judge.proofs.columns.winners_column.Tie as tie

@@ -7,12 +7,17 @@ use Rattle.judge.proofs.figures.figures_of.Tie as tie
 
 returns : tie.Need-returns
 returns c =
-    let t = c .before .before .before in
-    let s = t .before .before .before .before in
-    figures-numbers _ _ _ refl (s .before .number-at .ensures) (s .number-at2 .ensures)
-    (t .before .before .before .winners-column .ensures) (t .before .before .winners-column2 .ensures)
-    (t .before .winners-column3 .ensures) (t .winners-column4 .ensures)
-    (c .before .before .number-at3 .ensures) (c .before .sets-column .ensures) (c .sets-column2 .ensures)
+    let y = c .before in
+    let g = y .before in
+    let t = g .before in
+    let r = t .before in
+    let z = r .before in
+    let x = z .before in
+    let s = x .before in
+    let q = s .before in
+    figures-numbers _ _ _ refl (q .number-at .ensures) (s .number-at2 .ensures) (x .winners-column .ensures) (z .winners-column2 .ensures)
+    (r .winners-column3 .ensures) (t .winners-column4 .ensures) (g .number-at3 .ensures)
+    (y .sets-column .ensures) (c .sets-column2 .ensures)
 
 pub figures-of-spec : {M : Type 1} → statement M
 figures-of-spec =

@@ -9,7 +9,9 @@ use Rattle.judge.proofs.form.length_of.Tie as tie
 
 returns : tie.Need-returns
 unfolding sheet-formula
-returns c = ap (λ (e : ℕ). 20 + 29 * c .before .args .w + 12 * (e - 1)) (c .sets-of .ensures .0 ∙ ap (λ (n : ℕ). 2 ^ n) (min-eq-left (c .before .pre)))
+returns c =
+    ap (λ (e : ℕ). 20 + 29 * c .before .args .w + 12 * (e - 1))
+    (c .sets-end .ensures .0 ∙ ap (λ (n : ℕ). 2 ^ n) (min-eq-left (c .before .pre)))
 
 pub length-of-spec : {M : Type 1} → statement M
 length-of-spec =

@@ -10,7 +10,7 @@ use Rattle.judge.proofs.prices.accepted.Tie as tie
 returns : tie.Need-returns
 unfolding acceptance-with
 returns c =
-    let a = c .before .before .args in
+    let a = c .before .args in
     ap (λ (ps : List ℕ). record { number = 0; w = a .w; q = a .q; prices = ps }) (c .prices-of .ensures)
 
 pub accepted-spec : {M : Type 1} → statement M

@@ -5,19 +5,19 @@ use Prim.Native.Nat.{ℕ, _-_, _≤_, min}
 use native.Mathlib.Nat.{le-antisymm}
 use lib.ListN.{length}
 use Rattle.sets.proofs.Filled.{Filled, filled-none, filled-next}
-use Rattle.book.specs.Layout.{book-in}
+use Rattle.book.specs.Value.{book-of}
 use Rattle.demands.specs.Winners.{win, reserves, rho}
 use Rattle.winners.specs.Combinations.{amount-of}
-use Rattle.judge.proofs.Winners.{rho-filled}
+use Rattle.judge.proofs.WinnersPay.{rho-filled}
 use Rattle.judge.proofs.prices.reserves_of.Statement.{statement}
 use Rattle.judge.proofs.prices.reserves_of.Tie as tie
 
 abbrev Inv-loop : tie.InvT-loop
-Inv-loop input w bids few rho₀ j₀ rho j =
-    (j ≤ few) × (few ≡ min w 6) × (length bids ≡ 6) × Filled 6 (λ j. Rattle.demands.specs.Winners.rho (book-in input) bids j) j rho
+Inv-loop book w bids few rho₀ j₀ rho j =
+    (j ≤ few) × (few ≡ min w 6) × (length bids ≡ 6) × Filled 6 (λ j. Rattle.demands.specs.Winners.rho (book-of book) bids j) j rho
 
 abbrev μ-loop : tie.MeasureT-loop
-μ-loop input w bids few rho₀ j₀ rho j = few - j
+μ-loop book w bids few rho₀ j₀ rho j = few - j
 
 loop-holds : tie.Need-loop-holds Inv-loop μ-loop
 loop-holds c = (search needs, c .smaller .ensures, search needs, filled-none 6 _)
@@ -25,19 +25,20 @@ loop-holds c = (search needs, c .smaller .ensures, search needs, filled-none 6 _
 loop-again : tie.Need-loop-again Inv-loop μ-loop
 unfolding rho win reserves amount-of
 loop-again c =
-    let inv = c .before .before .before .before .loop .inv in (
+    let turn = c .before .before .before .before in (
       search needs,
       search needs,
       search needs,
       filled-next _ _ _ _ _ (search needs)
-          (c .excess .ensures ∙ ap₂ (λ (a d : ℕ). a - d) (c .before .before .amount .ensures) (c .before .reserves .ensures)) (inv .3),
+          (c .excess .ensures ∙ ap₂ (λ (a d : ℕ). a - d) (c .before .before .amount-of .ensures) (c .before .reserves-of .ensures))
+          (turn .loop .inv .3),
     )
 
 returns : tie.Need-returns Inv-loop μ-loop
 returns c =
-    let a = c .before .before .before .before .args in
+    let a = c .before .before .before .args in
     let l = c .before .loop in
-    rho-filled (book-in (a .input .now)) (a .t2) (a .w) (l .inv .2) (l .rho)
+    rho-filled (book-of (a .book)) (a .t2) (a .w) (l .inv .2) (l .rho)
     (rw (← l .inv .1, le-antisymm (c .loop-test .left) (l .inv .0)) (l .inv .3))
 
 pub reserves-of-spec : {M : Type 1} → statement M

@@ -1,4 +1,4 @@
--- `lookups::array::blank` meets its contract. The loop keeps what the nones still to be stored make of the array. Assumes nothing.
+-- `array::blank` meets its contract. The loop keeps what the nones still to be stored make of the array. Assumes nothing.
 use borrow.Author.Needs.{needs}
 use mathlib.Core.Path.{_≡_, refl, _∙_}
 use Prim.Native.Nat.{ℕ, _-_, _≤_, _+_}

@@ -1,14 +1,36 @@
 -- `choice::may_follow` meets its contract. Assumes nothing.
 use borrow.Author.Needs.{needs}
+use mathlib.Core.Path.{sym}
+use Rattle.book.proofs.Held.{sound-held}
+use Rattle.winners.proofs.HeldBids.{kinds-are, clients-are, bids-are}
 use Rattle.winners.proofs.Choosing.{follows-code}
 use Rattle.winners.proofs.choice.may_follow.Statement.{statement}
 use Rattle.winners.proofs.choice.may_follow.Tie as tie
 
 returns : tie.Need-returns
 returns c =
-    let p = c .before .before .before .before .before .before .before .before .before .before .pre in
-    rw (c .both5 .ensures, c .before .fit .ensures, c .before .before .asked .ensures, c .before .before .before .both4 .ensures, c .before .before .before .before .both3 .ensures, c .before .before .before .before .before .is-standing .ensures, c .before .before .before .before .before .before .both2 .ensures, c .before .before .before .before .before .before .before .both .ensures)
-    (follows-code _ _ _ _ _ _ _ _ (p .sound .K-high) (p .kinds) (p .bids) (p .clients) (c .before .before .before .before .before .before .before .before .client .ensures))
+    let fit = c .before in
+    let whole = fit .before .before in
+    let asked = whole .before in
+    let taken = asked .before in
+    let stands = taken .before in
+    let after = stands .before in
+    let named = after .before .before in
+    let owner = named .before .before in
+    let v = owner .before .args .book in
+    let h = owner .before .pre in
+    rw (
+      c .both5 .ensures,
+      fit .fit .ensures,
+      asked .hours-of .ensures,
+      whole .both4 .ensures,
+      taken .both3 .ensures,
+      stands .is-standing .ensures,
+      after .both2 .ensures,
+      named .both .ensures,
+    )
+    (follows-code _ (sound-held v h) _ _ _ _ _ _ _ (sym (kinds-are v h)) (sym (bids-are v h)) (sym (clients-are v h))
+    (owner .client-of .ensures))
 
 pub may-follow-spec : {M : Type 1} → statement M
 may-follow-spec =
@@ -16,12 +38,15 @@ may-follow-spec =
     (tie.spec
     (λ c κs. search needs)
     (λ c. search needs)
+    (λ c. search needs)
+    (λ c κs. search needs)
+    (λ c. search needs)
     (λ c κs. search needs)
     (λ c κs. search needs)
     (λ c κs. search needs)
     (λ c κs. search needs)
     (λ c κs. search needs)
-    (λ c κs. search needs)
+    (λ c. search needs)
     (λ c κs. search needs)
     (λ c κs. search needs)
     returns)

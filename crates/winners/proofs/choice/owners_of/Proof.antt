@@ -7,13 +7,14 @@ use lib.ListN.{length, getD}
 use Rattle.sets.proofs.Filled.{Filled, filled-none, filled-next}
 use Rattle.winners.proofs.Six.{six-done}
 use Rattle.book.specs.Book.{client-of}
-use Rattle.book.specs.Layout.{book-in}
+use Rattle.book.specs.Value.{book-of}
+use Rattle.winners.specs.Weighed.{owners-of}
 use Rattle.winners.proofs.choice.owners_of.Statement.{statement}
 use Rattle.winners.proofs.choice.owners_of.Tie as tie
 
 abbrev Inv-loop : tie.InvT-loop
 Inv-loop book count bids owners₀ i₀ owners i =
-    (i ≤ count) × (length bids ≡ 6) × Filled 6 (λ j. client-of (book-in book) (getD bids j 0)) i owners
+    (i ≤ count) × (length bids ≡ 6) × Filled 6 (λ j. client-of (book-of book) (getD bids j 0)) i owners
 
 abbrev μ-loop : tie.MeasureT-loop
 μ-loop book count bids owners₀ i₀ owners i = count - i
@@ -24,13 +25,15 @@ loop-holds c = (search needs, search needs, filled-none 6 _)
 loop-again : tie.Need-loop-again Inv-loop μ-loop
 loop-again c =
     let l = c .before .before .loop in
-    (search needs, search needs, filled-next _ _ _ _ _ (search needs) (c .client .ensures) (l .inv .2))
+    (search needs, search needs, filled-next _ _ _ _ _ (search needs) (c .client-of .ensures) (l .inv .2))
 
 returns : tie.Need-returns Inv-loop μ-loop
+unfolding owners-of
 returns c =
-    let a = c .before .before .before .args in
+    let a = c .before .before .args in
     let l = c .before .loop in
-    six-done (λ i. client-of (book-in (a .book .now)) i) (a .t2) (a .count) _ (search needs) (search needs) (rw (le-antisymm (c .loop-test .left) (l .inv .0)) (l .inv .2))
+    six-done (λ i. client-of (book-of (a .book)) i) (a .t2) (a .count) _ (search needs) (search needs)
+    (rw (le-antisymm (c .loop-test .left) (l .inv .0)) (l .inv .2))
 
 pub owners-of-spec : {M : Type 1} → statement M
 owners-of-spec =

@@ -6,7 +6,7 @@ use lib.ListN.{length, take}
 use lib.ListN.{drop}
 use Rattle.sets.proofs.Prefixes.{prefix-next, prefix-done}
 use Rattle.winners.proofs.Choosing.{worth-next, worth-done}
-use Rattle.book.specs.Layout.{book-in}
+use Rattle.book.specs.Value.{book-of}
 use Rattle.winners.specs.Combinations.{amount-of, worth}
 use native.Mathlib.Nat.{zero-add}
 use Rattle.winners.proofs.choice.value_of.Statement.{statement}
@@ -15,7 +15,7 @@ use Rattle.winners.proofs.choice.value_of.Tie as tie
 abbrev Inv-loop : tie.InvT-loop
 Inv-loop book count bids sum₀ i₀ sum i =
     (i ≤ count)
-    × (sum + worth (book-in book) (drop i (take count bids)) ≡ worth (book-in book) (take count bids))
+    × (sum + worth (book-of book) (drop i (take count bids)) ≡ worth (book-of book) (take count bids))
     × (sum ≤ 4294967295 * i)
     × (length bids ≡ 6)
 
@@ -29,16 +29,17 @@ loop-again : tie.Need-loop-again Inv-loop μ-loop
 unfolding amount-of
 loop-again c =
     let l = c .before .before .loop in
-    let a = c .before .before .before .before .args in (
+    let a = c .before .before .before .args in (
       search needs,
-      worth-next (amount-of (book-in (a .book .now))) _ _ _ _ _ _ (prefix-next (a .t2) (a .count) (search needs) (l .i) (search needs)) (c .amount .ensures) (l .inv .1),
+      worth-next (amount-of (book-of (a .book))) _ _ _ _ _ _ (prefix-next (a .t2) (a .count) (search needs) (l .i) (search needs))
+          (c .amount-of .ensures) (l .inv .1),
       search needs,
       search needs,
     )
 
 returns : tie.Need-returns Inv-loop μ-loop
 returns c =
-    let a = c .before .before .before .args in
+    let a = c .before .before .args in
     let l = c .before .loop in
     worth-done _ _ _ _ (prefix-done (a .t2) (a .count) (search needs) _ (c .loop-test .left)) (l .inv .1)
 

@@ -2,7 +2,7 @@
 use borrow.Author.Needs.{needs}
 use borrow.Author.Tests.{not-true, not-false}
 use mathlib.Core.Path.{sym, _∙_}
-use Rattle.winners.proofs.Rows.{fit-fails, fit-last}
+use Rattle.winners.proofs.KindTests.{fit-fails, fit-last}
 use Rattle.winners.proofs.hours.fit.Statement.{statement}
 use Rattle.winners.proofs.hours.fit.Tie as tie
 

@@ -4,7 +4,7 @@ use mathlib.Core.Path.{_≡_, sym, ap, _∙_}
 use Prim.Native.Nat.{ℕ, min}
 use native.Mathlib.Omega.{arith}
 use Rattle.winners.specs.Lanes.{ones}
-use Rattle.winners.proofs.FourLanes.{ones-shifted}
+use Rattle.winners.proofs.LanesPacked.{ones-shifted}
 use Rattle.winners.proofs.lanes.lanes_to.Statement.{statement}
 use Rattle.winners.proofs.lanes.lanes_to.Tie as tie
 

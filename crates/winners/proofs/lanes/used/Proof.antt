@@ -5,7 +5,7 @@ use Prim.Native.Nat.{ℕ, _-_}
 use borrow.Author.Needs.{needs}
 use lib.Seq.{take-all}
 use Rattle.winners.specs.Lanes.{Bytes}
-use Rattle.winners.proofs.FourLanes.{used-four}
+use Rattle.winners.proofs.LanesPacked.{used-four}
 use Rattle.winners.proofs.lanes.used.Statement.{statement}
 use Rattle.winners.proofs.lanes.used.Tie as tie
 

@@ -11,7 +11,8 @@ use Rattle.winners.proofs.lists.discards.Statement.{statement}
 use Rattle.winners.proofs.lists.discards.Tie as tie
 
 abbrev Inv-loop : tie.InvT-loop
-Inv-loop count clients discards₀ j₀ discards j = (j ≤ count) × (length clients ≡ 6) × (length discards ≡ 64) × Bytes clients count j discards
+Inv-loop count clients discards₀ j₀ discards j = (j ≤ count) × (length clients ≡ 6) × (length discards ≡ 64)
+    × Bytes clients count j discards
 
 abbrev μ-loop : tie.MeasureT-loop
 μ-loop count clients discards₀ j₀ discards j = count - j
@@ -21,7 +22,8 @@ loop-holds c = (search needs, search needs, search needs, bytes-none (c .args .t
 
 -- the client at hand is one of 1 to 6
 client : (c : tie.In-loop Inv-loop μ-loop) → let x = getD (c .before .before .args .t1) (c .before .loop .j) 0 in (1 ≤ x) × (x ≤ 6)
-client c = listed-range (c .before .before .args .t1) (c .before .before .args .count) (c .before .loop .j) (c .before .before .pre) (c .before .loop .inv .1) (c .loop-test .taken)
+client c = listed-range (c .before .before .args .t1) (c .before .before .args .count) (c .before .loop .j) (c .before .before .pre)
+    (c .before .loop .inv .1) (c .loop-test .taken)
 
 double-requires : tie.Need-double-requires Inv-loop μ-loop
 double-requires c κs =
@@ -32,14 +34,20 @@ double-requires c κs =
 loop-again : tie.Need-loop-again Inv-loop μ-loop
 loop-again c =
     let l = c .before .before .before .loop in
-    let s = c .before .before .before .before in
-    (search needs, l .inv .1, c .double .ensures .1, bytes-next (s .args .t1) (s .args .count) (s .pre) (l .inv .1) (l .j) (c .before .before .loop-test .taken) _ (l .inv .3) _ (c .double .ensures .0))
+    let s = c .before .before .before .before in (
+      search needs,
+      l .inv .1,
+      c .double .ensures .1,
+      bytes-next (s .args .t1) (s .args .count) (s .pre) (l .inv .1) (l .j) (c .before .before .loop-test .taken) _ (l .inv .3) _
+          (c .double .ensures .0),
+    )
 
 returns : tie.Need-returns Inv-loop μ-loop
 returns c =
     let l = c .before .loop in
     let s = c .before .before in
-    bytes-done (s .args .t1) (s .args .count) (s .pre) (l .inv .1) (l .j) (l .discards) (le-antisymm (l .inv .0) (c .loop-test .left)) (l .inv .3)
+    bytes-done (s .args .t1) (s .args .count) (s .pre) (l .inv .1) (l .j) (l .discards) (le-antisymm (l .inv .0) (c .loop-test .left))
+    (l .inv .3)
 
 pub discards-spec : {M : Type 1} → statement M
 discards-spec =

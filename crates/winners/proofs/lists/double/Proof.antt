@@ -5,7 +5,7 @@ use Prim.Native.Nat.{_-_, _≤_}
 use native.Mathlib.Omega.{arith}
 use native.Mathlib.Nat.{le-antisymm}
 use lib.ListN.{length}
-use Rattle.winners.specs.Needs.{Doubled}
+use Rattle.winners.specs.Listed.{Doubled}
 use Rattle.winners.proofs.Doubling.{doubled-next}
 use Rattle.winners.proofs.lists.double.Statement.{statement}
 use Rattle.winners.proofs.lists.double.Tie as tie
@@ -29,13 +29,22 @@ add-discards c =
     omega (arith, p .low, l .inv .2 .kept (l .set) (c .before .loop-test .taken), p .most (l .set) (c .before .loop-test .taken))
 
 element-write-discards : tie.Need-element-write-discards Inv-loop μ-loop
-element-write-discards c = let l = c .before .before .loop in omega (arith, l .inv .1, c .before .before .before .pre .few, c .before .loop-test .taken)
+element-write-discards c = let l = c .before .before .loop in omega (
+  arith,
+  l .inv .1,
+  c .before .before .before .pre .few,
+  c .before .loop-test .taken,
+)
 
 loop-again : tie.Need-loop-again Inv-loop μ-loop
 loop-again c =
     let l = c .before .before .loop in
-    let inside = c .before .loop-test .taken in
-    (search needs, search needs, doubled-next _ _ _ _ _ _ inside (omega (arith, c .before .before .before .pre .few, l .inv .1)) refl (l .inv .2))
+    let inside = c .before .loop-test .taken in (
+      search needs,
+      search needs,
+      doubled-next _ _ _ _ _ _ inside (omega (arith, c .before .before .before .pre .few, l .inv .1)) refl
+          (l .inv .2),
+    )
 
 returns : tie.Need-returns Inv-loop μ-loop
 returns c =

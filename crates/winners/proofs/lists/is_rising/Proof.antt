@@ -29,14 +29,16 @@ loop-again c =
     let l = c .before .before .before .loop in
     let a = c .before .before .before .before .before .args in (
       search needs,
-      rising-next (a .n) (l .last) _ _ _ (l .ok) _ _ _ (prefix-next (a .t1) (a .count) (search needs) (l .i) (search needs)) (c .both2 .ensures) (c .before .both .ensures) (l .inv .1),
+      rising-next (a .n) (l .last) _ _ _ (l .ok) _ _ _ (prefix-next (a .t1) (a .count) (search needs) (l .i) (search needs))
+          (c .both2 .ensures) (c .before .both .ensures) (l .inv .1),
       search needs,
     )
 
 returns-2 : tie.Need-returns-2 Inv-loop μ-loop
 returns-2 c =
     let a = c .before .before .before .args in
-    rw (le-leb (a .count) 6 (c .before .before .if1 .left)) (rising-done _ _ _ _ _ (prefix-done (a .t1) (a .count) (search needs) _ (c .loop-test .left)) (c .before .loop .inv .1))
+    rw (le-leb (a .count) 6 (c .before .before .if1 .left))
+    (rising-done _ _ _ _ _ (prefix-done (a .t1) (a .count) (search needs) _ (c .loop-test .left)) (c .before .loop .inv .1))
 
 pub is-rising-spec : {M : Type 1} → statement M
 is-rising-spec =

@@ -14,7 +14,8 @@ use Rattle.market.specs.Market.{Market, less}
 use Rattle.winners.specs.Searching.{Head, Looked, weight-in}
 use Rattle.winners.proofs.LanesLeft.{fit-here, left-after}
 use Rattle.winners.proofs.Ceilings.{owned-inside, ceiling-left, few-fits, raised-few, some-left}
-use Rattle.winners.proofs.Choices.{at-own-first, chosen-first, chosen-taken, chosen-left, reached, search-done, turn-next, weight-at}
+use Rattle.winners.proofs.Choices.{at-own-first, chosen-first, chosen-taken, chosen-left, reached, search-done, searchable-next}
+use Rattle.winners.proofs.Choices.{weight-at}
 use Rattle.winners.proofs.Passing.{Own, Found, own-next, found-next}
 use borrow.Fn.Kinds.{In}
 use borrow.Fn.PlainCycle.{Measures, is, falls, and}
@@ -46,7 +47,8 @@ told t = (
 )
 
 abbrev Inv-loop : lts.InvT-loop
-Inv-loop ahead used floor looks most fewer rest top₀ i₀ top i = (top ≤ max floor (ahead * 4294967295)) × Own ahead looks i × Found ahead used floor looks top i
+Inv-loop ahead used floor looks most fewer rest top₀ i₀ top i = (top ≤ max floor (ahead * 4294967295)) × Own ahead looks i
+    × Found ahead used floor looks top i
 
 abbrev μ-loop : lts.MeasureT-loop
 μ-loop ahead used floor looks most fewer rest top₀ i₀ top i = 48 - i
@@ -54,16 +56,22 @@ abbrev μ-loop : lts.MeasureT-loop
 returns : (t : ℕ) → lts.Need-returns (told t) (at-turn t) search-from.Post Inv-loop μ-loop
 returns t c =
     let s = c .before .before in
-    let a = s .args in
-    (omega arith, λ m k ls h l. sym (max-eq-left (le-trans (ceiling-left m (a .looks .now) (h .ceiling) (a .ahead) ls (s .pre .1 .1 .clients-few)) (c .if1 .taken))))
+    let a = s .args in (
+      omega arith,
+      λ m k ls h l. sym
+          (max-eq-left (le-trans (ceiling-left m (a .looks .now) (h .ceiling) (a .ahead) ls (s .pre .1 .1 .clients-few)) (c .if1 .taken))),
+    )
 
 -- there is a client left
 some : (t : ℕ) (c : lts.Else1 (told t) (at-turn t) search-from.Post Inv-loop μ-loop) → 0 < c .before .before .args .ahead
-some t c = some-left (c .before .before .args .ahead) (c .before .before .args .floor) (c .before .before .args .looks .now) (c .before .before .pre .1 .1 .bottom) (c .if1 .left)
+some t c = some-left (c .before .before .args .ahead) (c .before .before .args .floor) (c .before .before .args .looks .now)
+    (c .before .before .pre .1 .1 .bottom) (c .if1 .left)
 
 -- the client's first bid, or none where its ceiling is not above the next one's
-starts : (t : ℕ) (c : lts.Joined2 (told t) (at-turn t) search-from.Post Inv-loop μ-loop) → let a = c .before .before .before .before .args in
-    c .if2 .i ≡ cond (ltb (getD (a .looks .now) (152 + (a .ahead - 1)) 0) (getD (a .looks .now) (152 + a .ahead) 0)) (getD (a .looks .now) (144 + a .ahead) 0) 48
+starts : (t : ℕ) (c : lts.Joined2 (told t) (at-turn t) search-from.Post Inv-loop μ-loop)
+    → let a = c .before .before .before .before .args in
+    c .if2 .i ≡ cond (ltb (getD (a .looks .now) (152 + (a .ahead - 1)) 0) (getD (a .looks .now) (152 + a .ahead) 0))
+    (getD (a .looks .now) (144 + a .ahead) 0) 48
 starts t c = ⊎-elim (λ w. w .2 ∙ rw (lt-ltb _ _ (w .0 .taken))) (λ w. w .1 ∙ rw (le-ltb _ _ (w .0 .left))) (c .if2 .came)
 
 loop-holds : (t : ℕ) → lts.Need-loop-holds (told t) (at-turn t) search-from.Post Inv-loop μ-loop
@@ -88,12 +96,18 @@ inside t c = omega (arith, c .loop-test .taken)
 add-hours : (t : ℕ) → lts.Need-add-after-2 (told t) (at-turn t) search-from.Post Inv-loop μ-loop
 add-hours t c =
     let s = c .before .before .before .before .before .before .before .before .before in
-    omega (arith, s .pre .1 .0 .hours-few (c .before .before .before .before .loop .i) (inside t (c .before .before .before)), s .pre .1 .1 .used-few, s .pre .1 .1 .clients-few)
+    omega (
+      arith,
+      s .pre .1 .0 .hours-few (c .before .before .before .before .loop .i) (inside t (c .before .before .before)),
+      s .pre .1 .1 .used-few,
+      s .pre .1 .1 .clients-few,
+    )
 
 add-may-raise : (t : ℕ) → lts.Need-add-may-raise (told t) (at-turn t) search-from.Post Inv-loop μ-loop
 add-may-raise t c =
     let s = c .before .before .before .before .before .before .before .before .before .before in
-    few-fits _ _ (s .pre .1 .0 .weights-few (c .before .before .before .before .before .loop .i) (inside t (c .before .before .before .before)))
+    few-fits _ _ (s .pre .1 .0 .weights-few (c .before .before .before .before .before .loop .i)
+    (inside t (c .before .before .before .before)))
     (s .pre .1 .1 .tops-few (s .args .ahead - 1) (omega (arith, s .pre .1 .1 .clients-few)))
 
 search-from-requires : (t : ℕ) → lts.Need-search-from-requires (told t) (at-turn t) search-from.Post Inv-loop μ-loop
@@ -103,7 +117,9 @@ search-from-requires t c κs =
     let w = s .pre .1 .1 in
     let l = c .before .before .before .before .before .before .before .before .loop in
     let asked = s .pre .1 .0 .hours-few (l .i) (inside t (c .before .before .before .before .before .before .before)) in
-    let n = turn-next t (a .ahead) (a .used) (a .floor) (a .used + getD (a .looks .now) (48 + l .i) 0) (c .excess .result) (a .looks .now) (s .pre .0) (some t (c .before .before .before .before .before .before .before .before .before .before .before)) w
+    let n = searchable-next t (a .ahead) (a .used) (a .floor) (a .used + getD (a .looks .now) (48 + l .i) 0) (c .excess .result)
+    (a .looks .now)
+    (s .pre .0) (some t (c .before .before .before .before .before .before .before .before .before .before .before)) w
     (omega (arith, c .excess .ensures, l .inv .0, w .floor-few, w .clients-few)) (omega arith) in
     (n .0, (s .pre .1 .0, n .1))
 
@@ -119,13 +135,23 @@ loop-less : (t : ℕ) → lts.Need-loop-less (told t) (at-turn t) search-from.Po
 loop-less t c =
     let l = c .before .before .before .before .before .before .before .before .before .loop in
     let within = inside t (c .before .before .before .before .before .before .before .before) in
-    omega (arith, within, c .before .before .before .before .before .before .before .before .before .before .before .before .before .before .pre .1 .0 .rises (l .i) within)
+    omega (
+      arith,
+      within,
+      c .before .before .before .before .before .before .before .before .before .before .before .before .before .before
+          .pre .1 .0 .rises (l .i) within,
+    )
 
 loop-less-2 : (t : ℕ) → lts.Need-loop-less-2 (told t) (at-turn t) search-from.Post Inv-loop μ-loop
 loop-less-2 t c =
     let l = c .before .before .before .before .before .before .before .loop in
     let within = inside t (c .before .before .before .before .before .before) in
-    omega (arith, within, c .before .before .before .before .before .before .before .before .before .before .before .before .pre .1 .0 .rises (l .i) within)
+    omega (
+      arith,
+      within,
+      c .before .before .before .before .before .before .before .before .before .before .before .before .pre .1 .0
+          .rises (l .i) within,
+    )
 
 loop-again : (t : ℕ) → lts.Need-loop-again (told t) (at-turn t) search-from.Post Inv-loop μ-loop
 loop-again t c =
@@ -141,15 +167,19 @@ loop-again t c =
     let weight = getD (a .looks .now) (l .i) 0 in
     let next = getD (a .looks .now) (152 + (a .ahead - 1)) 0 in
     let fitting = and-eq-true-iff (ltb (l .top) (weight + next)) _ .0 (sym raise ∙ c .before .before .if3 .taken) .1 in (
-      raised-few (a .ahead) (a .floor) (l .top) weight (c .before .excess .result) (c .search-from .result) _ there (s .pre .1 .0 .weights-few (l .i) within) refl (c .before .excess .ensures) (c .search-from .ensures .0) (l .inv .0),
+      raised-few (a .ahead) (a .floor) (l .top) weight (c .before .excess .result) (c .search-from .result) _ there
+          (s .pre .1 .0 .weights-few (l .i) within) refl (c .before .excess .ensures) (c .search-from .ensures .0) (l .inv .0),
       own-next (a .ahead) (a .looks .now) (l .i) one within (l .inv .1),
       found-next (a .ahead) (a .used) (a .floor) (a .looks .now) _ (l .i) one within (l .inv .1)
           (λ m k ls h left. let at = l .inv .1 m k h in
           let asked = h .asked (l .i) (owned-inside m client (l .i) (h .owned) one (at .own within)) in
           let fit = fit-here k (m .hours (l .i + 1)) ls (getD (a .looks .now) (48 + l .i) 0) (a .used) asked left in
-          chosen-taken m client ls (weight-in (a .looks .now)) (a .floor) (reached m (weight-in (a .looks .now)) (a .ahead)) (l .i) (at .own within) (at .able within (l .i) (at .own within)) (l .top) weight next _ _
-          (l .inv .2 m k ls h left) (weight-at (a .looks .now) (l .i)) raise fit (c .before .excess .result) (c .search-from .result) _ fitting (c .before .excess .ensures)
-          (c .search-from .ensures .1 m k (less ls (m .hours (l .i + 1))) h (left-after k (m .hours (l .i + 1)) ls (getD (a .looks .now) (48 + l .i) 0) (a .used) asked left (sym fit ∙ fitting)))
+          chosen-taken m client ls (weight-in (a .looks .now)) (a .floor) (reached m (weight-in (a .looks .now)) (a .ahead)) (l .i)
+          (at .own within) (at .able within (l .i) (at .own within)) (l .top) weight next _ _
+          (l .inv .2 m k ls h left) (weight-at (a .looks .now) (l .i)) raise fit (c .before .excess .result) (c .search-from .result) _
+          fitting (c .before .excess .ensures)
+          (c .search-from .ensures .1 m k (less ls (m .hours (l .i + 1))) h
+          (left-after k (m .hours (l .i + 1)) ls (getD (a .looks .now) (48 + l .i) 0) (a .used) asked left (sym fit ∙ fitting)))
           refl),
     )
 
@@ -170,7 +200,8 @@ loop-again-2 t c =
           (λ m k ls h left. let at = l .inv .1 m k h in
           let asked = h .asked (l .i) (owned-inside m client (l .i) (h .owned) one (at .own within)) in
           let fit = fit-here k (m .hours (l .i + 1)) ls (getD (a .looks .now) (48 + l .i) 0) (a .used) asked left in
-          chosen-left m client ls (weight-in (a .looks .now)) (a .floor) (reached m (weight-in (a .looks .now)) (a .ahead)) (l .i) (at .own within) (at .able within (l .i) (at .own within)) (l .top) weight next _ _
+          chosen-left m client ls (weight-in (a .looks .now)) (a .floor) (reached m (weight-in (a .looks .now)) (a .ahead)) (l .i)
+          (at .own within) (at .able within (l .i) (at .own within)) (l .top) weight next _ _
           (l .inv .2 m k ls h left) (weight-at (a .looks .now) (l .i)) (c .before .may-raise .ensures) fit _ (c .if3 .left)
           (ceiling-left m (a .looks .now) (h .ceiling) (a .ahead - 1) (less ls (m .hours (l .i + 1))) fewer) refl),
     )
@@ -180,7 +211,8 @@ search-from-requires-2 t c κs =
     let s = c .before .before .before .before .before .before in
     let a = s .args in
     let w = s .pre .1 .1 in
-    let n = turn-next t (a .ahead) (a .used) (a .floor) (a .used) (c .before .loop .top) (a .looks .now) (s .pre .0) (some t (c .before .before .before .before)) w
+    let n = searchable-next t (a .ahead) (a .used) (a .floor) (a .used) (c .before .loop .top) (a .looks .now) (s .pre .0)
+    (some t (c .before .before .before .before)) w
     (omega (arith, c .before .loop .inv .0, w .floor-few, w .clients-few)) (omega arith) in
     (n .0, (s .pre .1 .0, n .1))
 
@@ -190,7 +222,8 @@ returns-2 t c =
     let a = s .args in
     let l = c .before .before .loop in (
       omega (arith, c .search-from2 .ensures .0, l .inv .0),
-      λ m k ls h left. search-done m (weight-in (a .looks .now)) (a .ahead) ls (a .floor) (l .top) (l .i) _ (some t (c .before .before .before .before .before)) (s .pre .1 .1 .clients-few) (h .owned)
+      λ m k ls h left. search-done m (weight-in (a .looks .now)) (a .ahead) ls (a .floor) (l .top) (l .i) _
+          (some t (c .before .before .before .before .before)) (s .pre .1 .1 .clients-few) (h .owned)
           (c .before .loop-test .left) (l .inv .2 m k ls h left) (c .search-from2 .ensures .1 m k ls h left),
     )
 

@@ -1,42 +1,36 @@
--- `values::value::value_by` meets its contract. Assumes nothing.
+-- `values::value_by` meets its contract. Assumes nothing.
 use mathlib.Core.Path.{_≡_}
 use native.Mathlib.Omega.{arith}
-use lib.ListN.{getD}
+use lib.ListN.{length, getD}
 use Rattle.book.specs.Book.{supplies}
-use Rattle.book.specs.Layout.{K-of, book-in}
 use Rattle.winners.proofs.LaneSums.{used-most}
-use Rattle.winners.proofs.Found.{searched, turned-prepared, turned-turn, looked-sound, nothing-found, greatest-found}
+use Rattle.winners.proofs.Discarding.{topped-prepared, topped-searchable}
+use Rattle.winners.proofs.Found.{searched, looked-sound, nothing-found, value-found}
 use Rattle.winners.proofs.values.value_by.Statement.{statement}
 use Rattle.winners.proofs.values.value_by.Tie as tie
 
-turn-requires : tie.Need-turn-requires
-turn-requires c κs = c .before .before .pre .1 .1 .summable
+set-ceilings-requires : tie.Need-set-ceilings-requires
+set-ceilings-requires c κs = c .before .pre .1 .prepared .summable
 
 returns : tie.Need-returns
-returns c =
-    let s = c .before .before .before .before in
-    let bs = s .args .book .now in
-    let turned = c .before .turn .ensures .1 in
-    let made = turned-prepared _ _ _ bs (s .pre .0) turned (s .pre .1 .1) in
-    let zero : getD (c .before .turn .last .1 .0) 158 0 ≡ 0 = omega (arith, c .before .turn .ensures .0, c .if1 .taken) in
-    (greatest-found bs _ (s .args .discard) _ (s .pre .0) made (nothing-found bs _ _ _ (s .pre .0) (s .pre .1 .1) turned zero), made)
+returns c b r =
+    let set = c .before .set-ceilings in
+    let zero : getD (set .last .1 .0) 158 0 ≡ 0 = omega (arith, set .ensures .0, c .if1 .taken) in
+    value-found b _ _ _ _ _ r (set .ensures .1) (nothing-found b _ _ _ (r .sound) (r .prepared) (set .ensures .1) zero)
 
 search-from-requires : tie.Need-search-from-requires
 search-from-requires c κs =
-    let p = c .before .before .before .before .before .pre in
-    let turned = c .before .before .turn .ensures .1 in
-    (turned-prepared _ _ _ _ (p .0) turned (p .1 .1) .ready, turned-turn _ _ _ _ turned (rw (p .1 .0 .lanes) (used-most _)))
+    let topped = c .before .before .set-ceilings .ensures .1 in
+    let (b, r) = c .before .before .before .before .pre in
+    (topped-prepared _ _ _ b (r .sound) topped (r .prepared) .ready, topped-searchable _ _ _ _ topped (rw (r .left .lanes) (used-most _)))
 
 returns-2 : tie.Need-returns-2
-returns-2 c =
-    let s = c .before .before .before .before .before .before in
-    let bs = s .args .book .now in
-    let turned = c .before .before .before .turn .ensures .1 in
-    let made = turned-prepared _ _ _ bs (s .pre .0) turned (s .pre .1 .1) in (
-      greatest-found bs _ (s .args .discard) _ (s .pre .0) made
-          (c .search-from .ensures .1 (searched (book-in bs) (s .args .discard)) (K-of bs) (supplies (book-in bs)) (looked-sound bs _ _ _ (s .pre .0) (s .pre .1 .1) turned) (s .pre .1 .0)),
-      made,
-    )
+returns-2 c b r =
+    let topped = c .before .before .before .set-ceilings .ensures .1 in
+    let start = c .before .before .before .before .before in
+    value-found b _ _ _ _ _ r topped
+    (c .search-from .ensures .1 (searched b (start .args .discard)) (length (b .kinds)) (supplies b)
+    (looked-sound b _ _ _ (r .sound) (r .prepared) topped) (r .left))
 
 pub value-by-spec : {M : Type 1} → statement M
-value-by-spec = tie.close (tie.spec turn-requires returns search-from-requires returns-2)
+value-by-spec = tie.close (tie.spec set-ceilings-requires returns search-from-requires returns-2)

@@ -1,0 +1,123 @@
+// A book's entries put from its bytes into arrays, one array by each function, with zeros past the counts and for hours past the kinds
+// (specs/Reading.antt). The loops over bids test no length: the caller has put question 2, so that the bids stand inside the bytes.
+use crate::bytes;
+ghost use mathlib.Core.Path.{_≡_};
+ghost use mathlib.Core.Bool.{cond};
+ghost use Prim.Native.Nat.{_+_, _/_, _%_, _≤_};
+ghost use lib.Dec.{eqb};
+ghost use lib.ListN.{length, getD};
+ghost use Rattle.sets.specs.Tables.{tabulate};
+ghost use Rattle.book.specs.Bytes.{bytes-at};
+ghost use Rattle.book.specs.Book.{no-bid};
+ghost use Rattle.book.specs.Layout.{kinds-in, bids-in};
+ghost use Rattle.book.specs.Sound.{no-kind};
+ghost use Rattle.book.specs.Reading.{cap-of};
+ghost use Rattle.book.specs.Room.{Bids-inside};
+
+// The supplies of k kinds.
+pub(crate) fn supplies(input: &[u8], k: usize) -> [u8; 4]
+    requires { ⌜ k ≤ 4 ⌝ }
+    ensures { λ r. ⌜ r ≡ tabulate 4 (λ j. getD (kinds-in k 4 (now (input .entry))) j no-kind .supply) ⌝ }
+{
+    let mut supply = [0u8; 4];
+    let mut i: usize = 0;
+    while i < k {
+        supply[i] = bytes::byte_at(input, 4 + 3 * i);
+        i = i + 1;
+    }
+    supply
+}
+
+// The reserves of k kinds.
+pub(crate) fn reserves(input: &[u8], k: usize) -> [u16; 4]
+    requires { ⌜ k ≤ 4 ⌝ }
+    ensures { λ r. ⌜ r ≡ tabulate 4 (λ j. getD (kinds-in k 4 (now (input .entry))) j no-kind .reserve) ⌝ }
+{
+    let mut reserve = [0u16; 4];
+    let mut i: usize = 0;
+    while i < k {
+        reserve[i] = bytes::u16_at(input, 4 + 3 * i + 1);
+        i = i + 1;
+    }
+    reserve
+}
+
+// The cap of a client of that status: none where it stands, and nothing where it is withdrawn.
+fn cap(status: u8) -> u16
+    ensures { λ r. ⌜ r ≡ cond (eqb status 0) 65535 0 ⌝ }
+{
+    if status == 0 { 65535 } else { 0 }
+}
+
+// The caps of n clients, whose statuses stand from a place on.
+pub(crate) fn caps(input: &[u8], n: usize, at: usize) -> [u16; 6]
+    requires { ⌜ (n ≤ 6) × (at + n ≤ length (now input)) ⌝ }
+    ensures { λ r. ⌜ r ≡ tabulate 6 (cap-of (bytes-at n at (now (input .entry)))) ⌝ }
+{
+    let mut caps = [0u16; 6];
+    let mut i: usize = 0;
+    while i < n {
+        caps[i] = cap(input[at + i]);
+        i = i + 1;
+    }
+    caps
+}
+
+// The clients of m bids.
+pub(crate) fn clients(input: &[u8], k: usize, m: usize, at: usize) -> [u8; 48]
+    requires { ⌜ Bids-inside (now input) k m at ⌝ }
+    ensures { λ r. ⌜ r ≡ tabulate 48 (λ i. getD (bids-in m k at (now (input .entry))) i no-bid .client) ⌝ }
+{
+    let mut client = [0u8; 48];
+    let mut place = at;
+    let mut i: usize = 0;
+    while i < m {
+        client[i] = input[place];
+        place = place + (k + 5);
+        i = i + 1;
+    }
+    client
+}
+
+// A byte where it counts, and 0 where it does not.
+fn kept(on: bool, byte: u8) -> u8
+    ensures { λ r. ⌜ r ≡ cond on byte 0 ⌝ }
+{
+    if on { byte } else { 0 }
+}
+
+// The hours of m bids, four places for each. Four bytes are taken whatever k is: the amount stands after the hours.
+pub(crate) fn hours(input: &[u8], k: usize, m: usize, at: usize) -> [u8; 192]
+    requires { ⌜ Bids-inside (now input) k m at ⌝ }
+    ensures { λ r. ⌜ r ≡ tabulate 192 (λ p. getD (getD (bids-in m k at (now (input .entry))) (p / 4) no-bid .hours) (p % 4) 0) ⌝ }
+{
+    let mut hours = [0u8; 192];
+    let mut place = at;
+    let mut i: usize = 0;
+    while i < m {
+        let four = 4 * i;
+        hours[four] = kept(0 < k, input[place + 1]);
+        hours[four + 1] = kept(1 < k, input[place + 2]);
+        hours[four + 2] = kept(2 < k, input[place + 3]);
+        hours[four + 3] = kept(3 < k, input[place + 4]);
+        place = place + (k + 5);
+        i = i + 1;
+    }
+    hours
+}
+
+// The amounts of m bids.
+pub(crate) fn amounts(input: &[u8], k: usize, m: usize, at: usize) -> [u32; 48]
+    requires { ⌜ Bids-inside (now input) k m at ⌝ }
+    ensures { λ r. ⌜ r ≡ tabulate 48 (λ i. getD (bids-in m k at (now (input .entry))) i no-bid .amount) ⌝ }
+{
+    let mut amount = [0u32; 48];
+    let mut place = at;
+    let mut i: usize = 0;
+    while i < m {
+        amount[i] = bytes::four_in(input, place + (k + 1));
+        place = place + (k + 5);
+        i = i + 1;
+    }
+    amount
+}

@@ -1,0 +1,86 @@
+-- `table::surpluses_of` meets its contract. Assumes nothing.
+use borrow.Author.Needs.{needs}
+use borrow.Author.Tests.{not-true, not-false}
+use mathlib.Core.Path.{_≡_, sym, ap, _∙_}
+use mathlib.Core.Bool.{true}
+use Prim.Native.Nat.{ℕ, _^_}
+use native.Mathlib.Nat.{min-eq-left}
+use Rattle.book.specs.Value.{book-of, sound-number}
+use Rattle.book.proofs.Held.{held-shaped, sound-held}
+use Rattle.winners.specs.Listed.{Listed}
+use Rattle.winners.specs.Surpluses.{list-good}
+use Rattle.winners.proofs.HeldBids.{clients-are}
+use Rattle.winners.proofs.Refusals.{refusal-none}
+use Rattle.winners.proofs.SetValues.{table-done}
+use Rattle.winners.proofs.SigmaAnswers.{good-listed, surpluses-refused, surpluses-none, surpluses-found}
+use Rattle.winners.proofs.table.surpluses_of.Statement.{statement}
+use Rattle.winners.proofs.table.surpluses_of.Tie as tie
+
+-- the book is sound
+none : (c : tie.Else1) → sound-number (c .before .before .args .book) ≡ 0
+none c = refusal-none (c .before .sound .ensures) (c .if1 .left)
+
+-- the test of the list is that of its definition
+tested : (c : tie.After-is-rising) → let a = c .before .before .before .before .args in c .is-rising .result ≡ list-good (book-of (a .book))
+    (a .clients) (a .count)
+unfolding list-good
+tested c = rw (clients-are _ (none (c .before .before))) (c .is-rising .ensures)
+
+good : (c : tie.Else2) → let a = c .before .before .before .before .before .args in list-good (book-of (a .book)) (a .clients)
+    (a .count) ≡ true
+good c = sym (tested (c .before)) ∙ not-false _ (c .if2 .left)
+
+listed : (c : tie.Else2) → let a = c .before .before .before .before .before .args in Listed (a .clients) (a .count)
+listed c = good-listed _ (sound-held _ (none (c .before .before .before))) _ _ (good c)
+
+returns : tie.Need-returns
+returns c =
+    rw (c .refused .ensures .0, c .refused .ensures .1, c .refused .ensures .2)
+    (surpluses-refused _ _ _ _ _ (c .before .before .sound .ensures) (c .before .if1 .taken))
+
+returns-2 : tie.Need-returns-2
+returns-2 c =
+    let test = c .before .before in
+    rw (c .refused2 .ensures .0, c .refused2 .ensures .1, c .refused2 .ensures .2)
+    (surpluses-none _ _ _ _ (none (test .before .before)) (sym (tested test) ∙ not-true _ (c .before .if2 .taken)))
+
+sigma-by-requires : tie.Need-sigma-by-requires
+sigma-by-requires c κs =
+    let ended = c .before in
+    let found = ended .before .before in (
+      (_, found .value-by .ensures _ (found .before .before .prepare .ensures) .readied),
+      (ended .sets-end .ensures .1, ended .sets-end .ensures .2),
+    )
+
+returns-3 : tie.Need-returns-3
+returns-3 c =
+    let ended = c .before .before in
+    let discards = ended .before in
+    let found = discards .before in
+    let prepared = found .before .before .prepare .ensures in
+    let test = found .before .before .before .before in
+    let yes = none (test .before .before .before) in
+    let value = found .value-by .ensures _ prepared in
+    let sets = ended .sets-end .ensures .0 ∙ ap (λ (n : ℕ). 2 ^ n) (min-eq-left (listed test .few)) in
+    surpluses-found _ _ _ _ yes (held-shaped _) (listed test .few) (good test) _ _ (value .greatest-is)
+    (table-done _ _ _ _ _ _ _ (listed test) (discards .discards .ensures) sets (value .greatest-is)
+    (c .sigma-by .ensures _ (value .readied)))
+
+pub surpluses-of-spec : {M : Type 1} → statement M
+surpluses-of-spec =
+    tie.close
+    (tie.spec
+    (λ c κs. search needs)
+    (λ c. search needs)
+    (λ c κs. search needs)
+    returns
+    (λ c. search needs)
+    (λ c κs. search needs)
+    (λ c κs. search needs)
+    returns-2
+    (λ c κs. none (c .before .before .before .before))
+    (λ c κs. (_, c .before .prepare .ensures))
+    (λ c κs. listed (c .before .before .before .before))
+    (λ c κs. search needs)
+    sigma-by-requires
+    returns-3)
