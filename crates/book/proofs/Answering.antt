@@ -90,13 +90,13 @@ module _ (bs : List ℕ) (h : book-refusal bs ≡ 0) where
       }
 
 -- good counts: each in its range, and statuses and bids inside the bytes
-pub record Laid (bs : List ℕ) (k n m : ℕ) : Type 0 where
+pub record Layout-inside (bs : List ℕ) (k n m : ℕ) : Type 0 where
   pub room : Room k n m
   pub statuses : 5 + 3 * k + n ≤ length bs
   pub bids : Bids-inside bs k m (6 + 3 * k + n)
 
 module _ (bs : List ℕ) (k n m : ℕ) (two : counts-good bs ≡ true) (ek : k ≡ K-of bs) (en : n ≡ n-of bs) (em : m ≡ m-of bs) where
-  pub laid : Laid bs k n m
+  pub laid : Layout-inside bs k n m
   unfolding book-formula
   laid =
       let c = counts bs two in

@@ -19,3 +19,5 @@ pub mod Whole
 pub mod RoundTrip
 pub mod Entered
 pub mod Answering
+-- The contracts and the definitions at work.
+pub mod Example

@@ -1,19 +1,20 @@
--- A book whose counts are in range and that questions 3 to 5 do not refuse is sound, whether it was read from bytes or is a value. Cited by
--- the layers above. Assumes nothing.
-use mathlib.Core.Path.{_≡_, refl}
-use mathlib.Core.Bool.{Bool, true, false, not, cond, and-eq-true-iff}
+-- A book whose counts are in range and that questions 3 to 5 do not refuse is sound, whether it was read from bytes or is a value; and a
+-- sound book is just such a one, but for its statuses. Cited by the layers above. Assumes nothing.
+use mathlib.Core.Path.{_≡_, refl, ap₂}
+use mathlib.Core.Bool.{Bool, true, false, _&&_, not, cond, and-eq-true-iff}
 use Prim.Native.Nat.{ℕ, zero, suc, _-_, _≤_, _<_}
 use native.Mathlib.Nat.{le-of-eq}
 use native.Mathlib.Decide.{decLt}
 use native.Mathlib.Omega.{arith}
 use lib.Dec.{leb}
 use lib.ListN.{length, getD, List·getD-eq-default}
-use borrow.Author.Tests.{leb-true}
+use borrow.Author.Tests.{leb-true, le-leb}
 use Rattle.book.specs.Lists.{within, all, total}
 use Rattle.book.specs.Book.{Bid, Book, no-bid, bid-at, client-of, clients}
 use Rattle.book.specs.Questions.{
   counts-ranged,
   kind-good,
+  status-good,
   tables-good,
   bid-good,
   few-bids,
@@ -23,7 +24,7 @@ use Rattle.book.specs.Questions.{
   entries-refusal,
 }
 use Rattle.book.specs.Sound.{no-kind, Sound, Shaped}
-use Rattle.book.proofs.Tests.{within-true, all-true, all-to-true}
+use Rattle.book.proofs.Tests.{within-true, true-within, all-true, true-all, all-to-true, true-all-to}
 
 -- counts in their ranges
 pub record Counted (k n m : ℕ) : Type 0 where
@@ -118,3 +119,24 @@ sound-book b c e h =
       reserves = λ i l k. leb-true _ _ (numbered b (reserves-met (b .kinds)) (q .five) i l k);
       kinds-each = e;
     }
+
+-- SOUND SAYS NO LESS: the counts are in range, and questions 3 to 5 have nothing to say but of the statuses
+module _ (b : Book) (s : Sound b) where
+  pub sound-ranged : counts-ranged (length (b .kinds)) (clients b) (length (b .bids)) ≡ true
+  unfolding counts-ranged
+  sound-ranged =
+      ap₂ _&&_ (true-within 1 _ 4 (s .K-low) (s .K-high)) (ap₂ _&&_ (true-within 1 _ 6 (s .n-low) (s .n-high)) (le-leb _ 48 (s .m-high)))
+
+  pub sound-unrefused : all status-good (b .statuses) ≡ true → entries-refusal b ≡ 0
+  unfolding entries-refusal tables-good bids-good amounts-good kind-good bid-good few-bids reserves-met client-of bid-at
+  sound-unrefused statuses =
+      let first : (i : ℕ) → 1 ≤ suc i = λ i. omega arith in
+      let kinds = true-all kind-good no-kind (b .kinds) (λ k l.
+      ap₂ _&&_ (le-leb _ 200 (s .supply k l)) (le-leb _ 10000 (s .reserve k l))) in
+      let bids = true-all (bid-good (clients b)) no-bid (b .bids) (λ i l.
+      ap₂ _&&_ (true-within 1 _ _ (s .client-low (suc i) (first i) l) (s .client-high (suc i) (first i) l))
+      (ap₂ _&&_ (le-leb 1 _ (s .hours (suc i) (first i) l))
+      (true-within 1 _ 1000000 (s .amount-low (suc i) (first i) l) (s .amount-high (suc i) (first i) l)))) in
+      let few = true-all-to (few-bids (b .bids)) (clients b) (λ c l k. le-leb _ 8 (s .eight c l k)) in
+      let amounts = true-all (reserves-met (b .kinds)) no-bid (b .bids) (λ i l. le-leb _ _ (s .reserves (suc i) (first i) l)) in
+      rw (kinds, statuses, bids, few, amounts)

@@ -42,7 +42,7 @@ pub(crate) fn reserves(input: &[u8], k: usize) -> [u16; 4]
     reserve
 }
 
-// The cap of a client of that status: none where it stands, and nothing where it is withdrawn.
+// The cap of a client of that status: 65,535 hours, which no bid exceeds, where it stands, and 0 where it is withdrawn.
 fn cap(status: u8) -> u16
     ensures { λ r. ⌜ r ≡ cond (eqb status 0) 65535 0 ⌝ }
 {

@@ -25,8 +25,7 @@ pub fn client_of(book: Book, number: usize) -> u8
     if !is_bid(book.m, number) {
         return 0;
     }
-    let client = book.client;
-    client[number - 1]
+    book.client[number - 1]
 }
 
 // The amount of a bid.
@@ -36,8 +35,7 @@ pub fn amount_of(book: Book, number: usize) -> u32
     if !is_bid(book.m, number) {
         return 0;
     }
-    let amount = book.amount;
-    amount[number - 1]
+    book.amount[number - 1]
 }
 
 // The reserves of a bid's hours.
@@ -49,9 +47,8 @@ pub fn reserves_of(book: Book, number: usize) -> u64
     }
     let k = numbers::smaller(book.k as usize, 4);
     let reserve = book.reserve;
-    let hours = book.hours;
     let first = paid::first_reserves(k, reserve);
-    paid::reserves_of_four(&hours, 4 * (number - 1), first)
+    paid::reserves_of_four(&book.hours, 4 * (number - 1), first)
 }
 
 // A number of a kind that there is, else 0.
@@ -72,12 +69,12 @@ pub fn hours_of(book: Book, number: usize) -> [u8; 4]
     if !is_bid(book.m, number) {
         return [0; 4];
     }
-    let hours = book.hours;
+    let k = book.k;
     let at = 4 * (number - 1);
-    let a = of_kind(book.k, 0, hours[at]);
-    let b = of_kind(book.k, 1, hours[at + 1]);
-    let c = of_kind(book.k, 2, hours[at + 2]);
-    let d = of_kind(book.k, 3, hours[at + 3]);
+    let a = of_kind(k, 0, book.hours[at]);
+    let b = of_kind(k, 1, book.hours[at + 1]);
+    let c = of_kind(k, 2, book.hours[at + 2]);
+    let d = of_kind(k, 3, book.hours[at + 3]);
     [a, b, c, d]
 }
 
@@ -100,6 +97,5 @@ pub fn is_standing(book: Book, client: usize) -> bool
     if !counts::within(1, client, numbers::smaller(book.n as usize, 6)) {
         return false;
     }
-    let caps = book.caps;
-    caps[client - 1] != 0
+    book.caps[client - 1] != 0
 }

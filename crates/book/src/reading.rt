@@ -7,7 +7,7 @@ use crate::tables;
 use crate::test_of_value;
 use crate::value::Book;
 ghost use mathlib.Core.Path.{_≡_};
-ghost use Rattle.book.specs.Reading.{Reading-is, zero-arrays};
+ghost use Rattle.book.specs.Reading.{Reading-is};
 ghost use Rattle.book.specs.Room.{Tabled, nothing-read};
 
 // The number of the first question that is answered no, and zeros; or 0, the length that the book gives itself, and the book.
@@ -18,30 +18,23 @@ pub struct Reading {
     pub book: Book,
 }
 
-fn no_book() -> Book
-    ensures { λ r. ⌜ r ≡ zero-arrays ⌝ }
-{
-    Book {
-        k: 0,
-        supply: [0; 4],
-        reserve: [0; 4],
-        n: 0,
-        caps: [0; 6],
-        m: 0,
-        client: [0; 48],
-        hours: [0; 192],
-        amount: [0; 48],
-    }
-}
-
 fn refused(number: u8) -> Reading
     ensures { λ r. ⌜ r ≡ nothing-read number ⌝ }
 {
-    let book = no_book();
     Reading {
         number,
         length: 0,
-        book,
+        book: Book {
+            k: 0,
+            supply: [0; 4],
+            reserve: [0; 4],
+            n: 0,
+            caps: [0; 6],
+            m: 0,
+            client: [0; 48],
+            hours: [0; 192],
+            amount: [0; 48],
+        },
     }
 }
 

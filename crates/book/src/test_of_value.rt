@@ -12,14 +12,14 @@ ghost use Rattle.book.specs.Value.{sound-number};
 ghost use Rattle.book.specs.Room.{Room, kinds-held, bids-held, bids-refusal};
 
 // The number of the first of questions 4 and 5 that is answered no, whatever the supplies are; 0 where none is.
-pub(crate) fn bids_number(
+pub(crate) fn bids_number<'a>(
     k: usize,
     n: usize,
     m: usize,
     reserve: [u16; 4],
-    client: &[u8; 48],
-    hours: &[u8; 192],
-    amount: &[u32; 48],
+    client: &'a [u8; 48],
+    hours: &'a [u8; 192],
+    amount: &'a [u32; 48],
 ) -> u8
     requires { ⌜ Room k n m ⌝ }
     ensures { λ r. ⌜ ((ss : List ℕ) → r ≡ bids-refusal n (kinds-held k ss reserve)
@@ -52,8 +52,5 @@ pub fn sound(book: Book) -> u8
     if !tables::kinds_good(k, supply, reserve) {
         return 3;
     }
-    let client = book.client;
-    let hours = book.hours;
-    let amount = book.amount;
-    bids_number(k, n, m, reserve, &client, &hours, &amount)
+    bids_number(k, n, m, reserve, &book.client, &book.hours, &book.amount)
 }

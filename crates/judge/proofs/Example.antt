@@ -1,5 +1,5 @@
 -- Controls: the shortest sheet, with no winner, is read over any book, and is refused with one byte more or with another version. So the
--- contract of `read` leaves both numbers. Cited by nobody. Assumes nothing.
+-- contract of `read` leaves both numbers, and after a refusal nothing else. Cited by nobody. Assumes nothing.
 use mathlib.Core.Path.{_≡_, refl, ap, _∙_}
 use mathlib.Core.Bool.{Bool, cond}
 use mathlib.Core.List.{List, [], _∷_, _++_}
@@ -14,9 +14,9 @@ use Rattle.demands.specs.Sheet.{sheet-w, sheet-long, sheet-formula}
 use Rattle.demands.specs.Questions.{form-good}
 use Rattle.demands.proofs.Form.{Form, form-facts, facts-form}
 use Rattle.judge.specs.declared.sheet.SheetReading.{SheetReading}
-use Rattle.judge.specs.Reading.{Sheet-read}
+use Rattle.judge.specs.Reading.{zero-figures, Sheet-read}
 use Rattle.judge.proofs.Outcomes.{bare-book, bare-clients}
-use Rattle.judge.proofs.NumberedTests.{answered-yes}
+use Rattle.judge.proofs.NumberedTests.{answered-no, answered-yes}
 
 -- version 1, length 20, w 0, q 1, s 1, G 0
 abbrev shortest : List ℕ
@@ -46,6 +46,13 @@ module _ (n : ℕ) (r : SheetReading) where
   longer-refused : Sheet-read longer n r → r .number ≢ 0
   unfolding sheet-w sheet-formula
   longer-refused read z = omega (arith, read-form longer read z .whole)
+
+  -- with nothing but the number 6
+  longer-nothing : Sheet-read longer n r → r ≡ record { number = 6; bids = replicate 6 0; figures = zero-figures }
+  longer-nothing read =
+      let some = longer-refused read in
+      let six = answered-no (form-good any-book longer) 6 (r .number) (read .numbered any-book (bare-clients (min n 6))) (omega arith) .1 in
+      λ i. record { number = six i; bids = read .no-bids some i; figures = read .no-figures some i }
 
   version-refused : (more : List ℕ) → Sheet-read (2 ∷ more) n r → r .number ≢ 0
   version-refused more read z = omega (arith, read-form (2 ∷ more) read z .version)

@@ -15,3 +15,5 @@ pub mod Limits
 pub mod Judging
 pub mod Parts
 pub mod Readings
+-- The contract of judging at work.
+pub mod Promised

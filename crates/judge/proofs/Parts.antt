@@ -1,61 +1,31 @@
 -- What the bytes of a sheet give over a book that is a value: a refusal by question 6, or the sheet that arrays hold, and the answer to it.
 -- Cited by the proof of `answer_over`. Assumes nothing.
-use mathlib.Core.Path.{_≡_, sym, ap, fun-ext, _∙_}
+use mathlib.Core.Path.{_≡_, ap, _∙_}
 use mathlib.Core.Bool.{true, cond}
 use mathlib.Core.List.{List}
-use Prim.Native.Nat.{ℕ, _*_, _-_, _≤_, _<_}
-use native.Mathlib.Decide.{decLt}
+use Prim.Native.Nat.{ℕ, _-_, _≤_, _<_}
 use native.Mathlib.Omega.{arith}
-use borrow.Author.Tests.{le-ltb}
-use lib.Dec.{ltb}
-use lib.ListN.{take}
-use lib.Seq.{getD-take}
-use Rattle.sets.specs.Tables.{tabulate}
-use Rattle.market.specs.Market.{at}
-use Rattle.market.proofs.Bools.{cond-false}
 use Rattle.book.specs.Book.{Book}
 use Rattle.book.specs.Value.{book-of, sound-number}
 use Rattle.book.specs.declared.value.Book.{Book as Arrays}
 use Rattle.book.proofs.Held.{held-clients}
-use Rattle.winners.specs.Combinations.{amount-of}
 use Rattle.certificate.specs.Figures.{certificate}
 use Rattle.certificate.specs.InRange.{Ranges}
 use Rattle.certificate.specs.declared.ranges.Figures.{Figures}
 use Rattle.certificate.proofs.InRange.{in-range-iff}
 use Rattle.demands.specs.Sheet.{sheet-in}
 use Rattle.demands.specs.Call.{call-of}
-use Rattle.demands.specs.Winners.{win}
 use Rattle.demands.specs.Questions.{form-good, judged}
-use Rattle.demands.specs.Answer.{price, acceptance, refusal, answer-of}
+use Rattle.demands.specs.Answer.{acceptance, refusal, answer-of}
 use Rattle.demands.proofs.Passed.{judged-passed}
-use Rattle.judge.specs.Acceptance.{paid, acceptance-with}
 use Rattle.judge.specs.Reading.{sheet-held, Sheet-read}
 use Rattle.judge.specs.declared.sheet.SheetReading.{SheetReading}
 use Rattle.judge.proofs.Judging.{refused-form, refused-sheet, accepted-sheet}
 use Rattle.judge.proofs.NumberedTests.{answered-no, answered-yes}
 
-module _ (b : Book) (bids : List ℕ) (f : Figures) where
-  -- what is paid for bids that are held is the sheet's price
-  paid-price : (k : ℕ) → paid b bids (f .w) (f .q) (at (f .x)) k ≡ price b (sheet-held bids f) k
-  unfolding paid price win
-  paid-price k =
-      let w = f .w in
-      let due : ℕ → ℕ = λ i. f .q * amount-of b i - at (f .x) k in
-      elim (decLt k w) [
-        | yes l ↦ ap (λ (i : ℕ). cond (ltb k w) (due i) 0) (sym (getD-take w bids k 0 l))
-        | no l ↦
-            let past = le-ltb k w (omega arith) in
-            cond-false (ltb k w) (due (at bids k)) 0 past ∙ sym (cond-false (ltb k w) (due (at (take w bids) k)) 0 past)
-      ]
-
-  -- so to accept what is held is to accept the sheet
-  held-accepted : acceptance-with b bids (f .w) (f .q) (at (f .x)) ≡ acceptance b (sheet-held bids f)
-  unfolding acceptance-with acceptance
-  held-accepted = ap (λ (p : ℕ → ℕ). record { number = 0; w = f .w; q = f .q; prices = tabulate 6 p }) (fun-ext paid-price)
-
-  -- what is accepted is in range
-  pub held-ranges : (n : ℕ) → n ≡ judged b (sheet-held bids f) → n ≤ 0 → Ranges (certificate f)
-  held-ranges n e l = in-range-iff (certificate f) .0 (judged-passed b (sheet-held bids f) (omega arith) .ranges)
+-- figures that are accepted are in range
+pub held-ranges : (b : Book) (bids : List ℕ) (f : Figures) (n : ℕ) → n ≡ judged b (sheet-held bids f) → n ≤ 0 → Ranges (certificate f)
+held-ranges b bids f n e l = in-range-iff (certificate f) .0 (judged-passed b (sheet-held bids f) (omega arith) .ranges)
 
 module _ (v : Arrays) (part : List ℕ) (sound : sound-number v ≡ 0) (s : SheetReading) (read : Sheet-read part (v .n) s) where
   form-number : s .number ≡ cond (form-good (book-of v) part) 0 6
@@ -79,9 +49,5 @@ module _ (v : Arrays) (part : List ℕ) (sound : sound-number v ≡ 0) (s : Shee
     pub sheet-no : 0 < n → refusal n ≡ answer-of (call-of v part)
     sheet-no = refused-sheet (call-of v part) sound form-yes n judged-part
 
-    pub sheet-yes : n ≤ 0
-        → acceptance-with (book-of v) (s .bids) (s .figures .w) (s .figures .q) (at (s .figures .x)) ≡ answer-of (call-of v part)
-    sheet-yes l =
-        held-accepted (book-of v) (s .bids) (s .figures)
-        ∙ ap (acceptance (book-of v)) held
-        ∙ accepted-sheet (call-of v part) sound form-yes n judged-part l
+    pub sheet-yes : n ≤ 0 → acceptance (book-of v) (sheet-held (s .bids) (s .figures)) ≡ answer-of (call-of v part)
+    sheet-yes l = ap (acceptance (book-of v)) held ∙ accepted-sheet (call-of v part) sound form-yes n judged-part l

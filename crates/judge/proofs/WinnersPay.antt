@@ -1,8 +1,8 @@
 -- Arrays with an entry for each of w winners, of whom six count, against the definitions. Cited by the proofs of `reserves_of` and
 -- `prices_of`. Assumes nothing.
-use mathlib.Core.Path.{_≡_, refl, sym, ap, _∙_}
+use mathlib.Core.Path.{_≡_, sym, ap, _∙_}
 use mathlib.Core.List.{List}
-use Prim.Native.Nat.{ℕ, _*_, _-_, min}
+use Prim.Native.Nat.{ℕ, _*_, _-_, _≤_, _<_, min}
 use native.Mathlib.Decide.{decLt}
 use native.Mathlib.Omega.{arith}
 use lib.ListN.{length, getD, take, length-take}
@@ -12,17 +12,16 @@ use Rattle.sets.proofs.Tables.{filled-table}
 use Rattle.sets.proofs.Filled.{Filled}
 use Rattle.book.specs.Book.{Book, bid-at, reserves-of}
 use Rattle.winners.specs.Combinations.{amount-of}
+use Rattle.market.specs.Market.{at}
+use Rattle.certificate.specs.declared.ranges.Figures.{Figures}
+use Rattle.demands.specs.Answer.{price}
 use Rattle.demands.specs.Winners.{win, reserves, rho}
 use Rattle.demands.proofs.Winners.{rho-past}
-use Rattle.judge.specs.Acceptance.{paid}
+use Rattle.judge.specs.Reading.{sheet-held}
 
 -- one bid's amount less its reserves
 rho-at : Book → (bid : ℕ) → ℕ
 rho-at b i = amount-of b i - reserves-of (bid-at b i .hours) (b .kinds)
-
--- one price, for the amount that was read
-pub price-of : (q a a′ x v : ℕ) → v ≡ q * a - x → a ≡ a′ → v ≡ q * a′ - x
-price-of q a a′ x v e f = e ∙ ap (λ (z : ℕ). q * z - x) f
 
 module _ (b : Book) (bids : List ℕ) (w : ℕ) (long : length bids ≡ 6) (xs : List ℕ) where
   -- ρ of the winners
@@ -34,7 +33,16 @@ module _ (b : Book) (bids : List ℕ) (w : ℕ) (long : length bids ≡ 6) (xs :
         | no l ↦ f .above j (omega arith) ∙ sym (rho-past b (take w bids) j (omega (arith, length-take w bids)))
       ]
 
+module _ (b : Book) (bids : List ℕ) (f : Figures) where
+  -- what winner k pays, for the amount that was looked up
+  pub price-due : (k a v : ℕ) → k < f .w → v ≡ f .q * a - at (f .x) k → a ≡ amount-of b (at bids k)
+      → v ≡ f .q * win b (take (f .w) bids) k - at (f .x) k
+  unfolding win
+  price-due k a v l e p =
+      e ∙ ap (λ (z : ℕ). f .q * z - at (f .x) k) (p ∙ ap (amount-of b) (sym (getD-take (f .w) bids k 0 l)))
+
   -- what the winners pay
-  pub paid-filled : (q : ℕ) (x : ℕ → ℕ) → Filled 6 (λ k. q * win b bids k - x k) (min w 6) xs → xs ≡ tabulate 6 (paid b bids w q x)
-  unfolding paid
-  paid-filled q x f = filled-table 6 (λ k. q * win b bids k - x k) w (min w 6) xs refl f
+  pub prices-filled : (i : ℕ) (xs : List ℕ) → i ≡ f .w → f .w ≤ 6
+      → Filled 6 (λ k. f .q * win b (take (f .w) bids) k - at (f .x) k) i xs → xs ≡ tabulate 6 (price b (sheet-held bids f))
+  unfolding price
+  prices-filled i xs e few h = filled-table 6 (λ k. f .q * win b (take (f .w) bids) k - at (f .x) k) (f .w) i xs (omega arith) h

@@ -5,4 +5,3 @@ pub mod Reading
 -- What only private contracts cite.
 pub mod Columns
 pub mod Chain
-pub mod Acceptance

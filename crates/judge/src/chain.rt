@@ -62,6 +62,5 @@ pub(crate) fn answer_over(book: Book, part: &[u8]) -> Prices
     if 0 < later {
         return prices::refused(later);
     }
-    let x = figures.x;
-    prices::accepted(book, bids, figures.w as u32, figures.q as u32, x)
+    prices::accepted(book, bids, figures)
 }

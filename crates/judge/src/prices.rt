@@ -1,15 +1,17 @@
 // What winners pay, and the two kinds of answer: private to this crate, but for the answer's type.
 use book::Book;
+use certificate::ranges::Figures;
 ghost use mathlib.Core.Path.{_≡_};
 ghost use Prim.Native.Nat.{ℕ};
 ghost use lib.ListN.{getD, take};
 ghost use Rattle.book.specs.Value.{book-of};
-ghost use Rattle.market.specs.Market.{at};
 ghost use Rattle.sets.specs.Tables.{tabulate};
 ghost use Rattle.demands.specs.Winners.{rho};
-ghost use Rattle.demands.specs.Answer.{refusal};
-ghost use Rattle.judge.specs.Acceptance.{paid, acceptance-with};
+ghost use Rattle.certificate.specs.Figures.{certificate};
+ghost use Rattle.certificate.specs.InRange.{Ranges};
+ghost use Rattle.demands.specs.Answer.{price, acceptance, refusal};
 ghost use Rattle.judge.specs.Judgement.{answer-in};
+ghost use Rattle.judge.specs.Reading.{sheet-held};
 
 // The answer to an input: 0 and the prices over q of w winners, or the number of the first question that is answered no, and zeros.
 #[repr(C)]
@@ -49,25 +51,31 @@ pub(crate) fn refused(number: u8) -> Prices
 }
 
 // What each winner pays over q, 0 past the last.
-fn prices_of(book: Book, bids: [u8; 6], w: usize, q: u32, x: [u64; 6]) -> [u64; 6]
-    ensures { λ r. ⌜ r ≡ tabulate 6 (paid (book-of book) bids w q (at x)) ⌝ }
+fn prices_of(book: Book, bids: [u8; 6], figures: Figures) -> [u64; 6]
+    requires { ⌜ Ranges (certificate figures) ⌝ }
+    ensures { λ r. ⌜ r ≡ tabulate 6 (price (book-of book) (sheet-held bids figures)) ⌝ }
 {
-    let few = numbers::smaller(w, 6);
+    let w = figures.w as usize;
+    let q = figures.q;
+    let x = figures.x;
     let mut prices = [0u64; 6];
     let mut k: usize = 0;
-    while k < few {
+    while k < w {
         let amount = book::amount_of(book, bids[k] as usize) as u64;
-        prices[k] = numbers::excess(q as u64 * amount, x[k]);
+        prices[k] = numbers::excess(q * amount, x[k]);
         k += 1;
     }
     prices
 }
 
 // An acceptance has w, q, number 0 and the prices.
-pub(crate) fn accepted(book: Book, bids: [u8; 6], w: u32, q: u32, x: [u64; 6]) -> Prices
-    ensures { λ r. ⌜ answer-in r ≡ acceptance-with (book-of book) bids w q (at x) ⌝ }
+pub(crate) fn accepted(book: Book, bids: [u8; 6], figures: Figures) -> Prices
+    requires { ⌜ Ranges (certificate figures) ⌝ }
+    ensures { λ r. ⌜ answer-in r ≡ acceptance (book-of book) (sheet-held bids figures) ⌝ }
 {
-    let prices = prices_of(book, bids, w as usize, q, x);
+    let prices = prices_of(book, bids, figures);
+    let w = figures.w as u32;
+    let q = figures.q as u32;
     Prices {
         number: 0,
         w,

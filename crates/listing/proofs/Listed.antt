@@ -6,7 +6,7 @@ use Prim.Native.Nat.{ℕ, _-_, _≤_, _<_}
 use native.Mathlib.Nat.{le-trans}
 use native.Mathlib.Omega.{arith}
 use lib.Dec.{eqb}
-use lib.ListN.{length, take, drop, length-append, replicate}
+use lib.ListN.{length, take, drop, length-append, replicate, length-replicate}
 use borrow.Author.Tests.{eq-eqb, ne-eqb, eqb-true}
 use Rattle.market.proofs.Bools.{cond-true, cond-false, cond-cases}
 use Rattle.sets.specs.Tables.{tabulate}
@@ -22,7 +22,7 @@ use Rattle.demands.proofs.Passed.{accepted-passed}
 use Rattle.demands.proofs.Answer.{answered}
 use Rattle.judge.proofs.Readings.{read-call}
 use Rattle.text.specs.declared.Text.{Text}
-use Rattle.text.specs.Text.{blank, pushes, holding}
+use Rattle.text.specs.Text.{capacity, blank, pushes, holding}
 use Rattle.text.proofs.Pushes.{pushes-blank-holding}
 use Rattle.listing.specs.Listing.{accepted-word, line, winner-lines, accepted-text, refused-text, listing-of, Listed}
 use Rattle.listing.proofs.Pushing.{part-more, winners-alike}
@@ -98,3 +98,11 @@ unfolding holding
 listed-counted bs t h =
     let xs = listing-of (call-in bs) in
     rw (h .text) (omega (arith, length-append xs (replicate (128 - length xs) 0)))
+
+-- and no more than there is room for: so none was left out
+pub listed-whole : (bs : List ℕ) (t : Text) → Listed bs t → length (t .bytes) ≡ capacity
+unfolding holding
+listed-whole bs t h =
+    let xs = listing-of (call-in bs) in
+    let zeros = length-replicate {A = ℕ} (capacity - length xs) 0 in
+    rw (h .text) (omega (arith, length-append xs (replicate (capacity - length xs) 0), zeros, h .fits))

@@ -14,7 +14,7 @@ use Rattle.sets.proofs.Members.{has-above, has-last, has-same}
 use Rattle.sets.proofs.Prefixes.{prefix-length, prefix-at}
 use Rattle.market.specs.Market.{at}
 use Rattle.winners.proofs.Surplus.{any-ext}
-use Rattle.winners.specs.Listed.{Listed, Room, Doubled, Discards}
+use Rattle.winners.specs.ClientLists.{Rising-list, Room-to-double, Doubled, Discards}
 use Rattle.numbers.proofs.Shifts.{power-shift}
 use Rattle.winners.proofs.Picks.{early, byte-none, byte-with, byte-without, byte-all, byte-small, listed-range}
 
@@ -48,7 +48,7 @@ bit-of x = 1 * 2 ^ (x - 1) % 2 ^ 8
 bit-is : (x : ℕ) → x ≤ 6 → (bit-of x ≡ 2 ^ (x - 1)) × (2 ^ (x - 1) ≤ 32)
 bit-is x h = (shl-exact {a = 1} 1 (x - 1) 8 (lit< tt) (omega arith) ∙ omega arith, pow-mono {i = x - 1} {j = 5} (omega arith))
 
-module _ (clients : List ℕ) (count : ℕ) (h : Listed clients count) (e : length clients ≡ 6) where
+module _ (clients : List ℕ) (count : ℕ) (h : Rising-list clients count) (e : length clients ≡ 6) where
   pub bytes-none : Bytes clients count 0 (replicate 64 0)
   bytes-none L l = let z : L ≡ 0 = omega arith in rw z (byte-none (take count clients) 0)
 
@@ -65,7 +65,7 @@ module _ (clients : List ℕ) (count : ℕ) (h : Listed clients count) (e : leng
     bit : (bit-of (getD clients j 0) ≡ 2 ^ (getD clients j 0 - 1)) × (2 ^ (getD clients j 0 - 1) ≤ 32)
     bit = bit-is _ (listed-range clients count j h e l .1)
 
-    pub bytes-room : length ds ≡ 64 → Room ds (sets-of j) (bit-of (getD clients j 0))
+    pub bytes-room : length ds ≡ 64 → Room-to-double ds (sets-of j) (bit-of (getD clients j 0))
     bytes-room long = record {
       long = long;
       few = omega (arith, sets-are);

@@ -1,6 +1,6 @@
 -- What the search finds in a sound book: the array lays out the market without the clients that are discarded and the bids that never
--- fit, and the search from floor 0 over all clients gives the greatest value, at most 6,000,000. Cited by the proofs of src/tops.rt and
--- src/value.rt. Assumes nothing.
+-- fit, and the search from floor 0 over all clients gives the greatest value, at most 6,000,000. Cited by the proof of src/values.rt.
+-- Assumes nothing.
 use mathlib.Core.Path.{_≡_, refl, sym, _∙_}
 use mathlib.Core.Bool.{Bool, true, false, _&&_, not, cond, and-false, true≢false, and-eq-true-iff}
 use mathlib.Core.List.{List}

@@ -1,4 +1,4 @@
--- One lane: its guard is tested apart from the lanes above it. Cited by proofs/Laws.antt. Assumes nothing.
+-- One lane: its guard is tested apart from the lanes above it. Cited by LaneSums.antt. Assumes nothing.
 use mathlib.Core.Path.{_≡_, refl, sym, ap, _∙_}
 use mathlib.Core.Bool.{true, false, _&&_}
 use mathlib.Core.Logic.{⊎-elim}

@@ -34,7 +34,7 @@ row-take zero n i f l = refl
 row-take (suc k) zero i f l = absurd (omega arith)
 row-take (suc k) (suc n) i f l = ap (λ (xs : List ℕ). f i ∷ xs) (row-take k n (i + 1) f (le-of-suc-le-suc l))
 
--- by-kind entries read one by one
+-- four entries read one by one
 pub row-of-kinds : (f : ℕ → ℕ) (p : ℕ) → (f p ∷ f (p + 1) ∷ f (p + 2) ∷ f (p + 3) ∷ []) ≡ row 4 p f
 unfolding row
 row-of-kinds f p =
@@ -42,7 +42,7 @@ row-of-kinds f p =
     let three : p + 2 + 1 ≡ p + 3 = omega arith in
     rw (two, three)
 
--- by-kind entries of at most by-kind, 0 past them
+-- four entries of at most four, 0 past them
 by-kind-past : (xs : List ℕ) → length xs ≤ 4 → (i : ℕ) → length xs ≤ i → getD (by-kind xs) i 0 ≡ 0
 unfolding row
 by-kind-past xs h zero l = List·getD-eq-default xs 0 l
@@ -105,11 +105,15 @@ module _ (v : Arrays) (h : sound-number v ≡ 0) where
     unfolding bid-held
     hours-are = ap (λ (x : Bid). x .hours) bid-is
 
-    -- the by-kind hours that are read, packed
+    -- the four hours that are read, cut to the book's kinds, and packed
+    pub asked-take : (asked : List ℕ) → asked ≡ row 4 (4 * i) (λ p. getD (v .hours) p 0)
+        → take (v .k) asked ≡ bid-at (book-of v) (i + 1) .hours
+    asked-take asked ea =
+        ap (λ (xs : List ℕ). take (v .k) xs) ea ∙ row-take (v .k) 4 (4 * i) _ (counts-held v h .K-high) ∙ sym hours-are
+
     pub packed-is : (asked : List ℕ) (number : ℕ) → asked ≡ row 4 (4 * i) (λ p. getD (v .hours) p 0) → number ≡ packed (take (v .k) asked)
         → number ≡ packed (bid-at (book-of v) (i + 1) .hours)
-    packed-is asked number ea en =
-        en ∙ ap packed (ap (λ (xs : List ℕ). take (v .k) xs) ea ∙ row-take (v .k) 4 (4 * i) _ (counts-held v h .K-high) ∙ sym hours-are)
+    packed-is asked number ea en = en ∙ ap packed (asked-take asked ea)
 
     module _ (bytes : Bytes (v .hours)) where
       pub asked-is : Asked (length (book-of v .kinds)) (bid-at (book-of v) (i + 1) .hours) (packed (bid-at (book-of v) (i + 1) .hours))

@@ -18,11 +18,11 @@ kind-cases P p q r s (suc (suc zero)) l = r
 kind-cases P p q r s (suc (suc (suc zero))) l = s
 kind-cases P p q r s (suc (suc (suc (suc i)))) l = absurd (omega arith)
 
--- by-kind numbers that a function gives are its values
+-- four numbers that a function gives are its values
 pub kinds-at : (f : ℕ → ℕ) (a b c d : ℕ) → a ≡ f 0 → b ≡ f 1 → c ≡ f 2 → d ≡ f 3 → (i : ℕ) → i < 4 → getD (a ∷ b ∷ c ∷ d ∷ []) i 0 ≡ f i
 kinds-at f a b c d = kind-cases (λ i. getD (a ∷ b ∷ c ∷ d ∷ []) i 0 ≡ f i)
 
--- the first by-kind of a list of k entries, cut to k, are the list
+-- the first four entries of a list of k, cut to k, are the list
 pub by-kind-take : (k : ℕ) (xs : List ℕ) → k ≤ 4 → length xs ≡ k → take k (by-kind xs) ≡ xs
 unfolding row
 by-kind-take k xs h e =

@@ -1,4 +1,4 @@
--- Four kinds, of which the first k count: the test of the hours asked, and what is left. Cited by the proofs of src/lib.rt. Assumes
+-- Four kinds, of which the first k count: the test of the hours asked, and what is left. Cited by the proofs of src/hours.rt. Assumes
 -- nothing.
 use mathlib.Core.Path.{_≡_, refl, sym, _∙_}
 use mathlib.Core.Bool.{Bool, true, false, _&&_, _||_, or-true, and-eq-true-iff}

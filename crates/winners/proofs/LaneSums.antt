@@ -1,5 +1,5 @@
--- Hours in lanes: whether every guard is clear says whether the hours fit, and the sum is then what is used. Cited by the search of the
--- layer above. What is said of four lanes is shown for n. Assumes nothing.
+-- Hours in lanes: whether every guard is clear says whether the hours fit, and the sum is then what is used. Cited by HeldBids.antt and
+-- LanesLeft.antt. What is said of four lanes is shown for n. Assumes nothing.
 use mathlib.Core.Path.{_≡_, refl, sym, ap, _∙_}
 use mathlib.Core.Bool.{Bool, true, _&&_, and-eq-true-iff}
 use mathlib.Core.List.{List, [], _∷_}

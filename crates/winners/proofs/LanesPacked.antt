@@ -1,4 +1,4 @@
--- Lane-entries lanes written out. Cited by the proofs of src/lib.rt. Assumes nothing.
+-- Four hours put into their lanes, and cut to the first k. Cited by the proofs of src/lanes.rt. Assumes nothing.
 use mathlib.Core.Path.{_≡_, refl, ap₂, _∙_}
 use mathlib.Core.List.{List, [], _∷_}
 use Prim.Native.Nat.{ℕ, zero, suc, _+_, _*_, _-_, _%_, _^_, _≤_, _<_, min}

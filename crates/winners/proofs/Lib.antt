@@ -12,6 +12,7 @@ pub mod Choosing
 pub mod Discarding
 pub mod Doubling
 pub mod Filling
+pub mod Followers
 pub mod Found
 pub mod Guard
 pub mod HeldBids
@@ -34,3 +35,6 @@ pub mod Six
 pub mod Storing
 pub mod WeighedAnswers
 pub mod WorthAnswers
+-- The contracts at work: what their words leave, and the worked calls' book.
+pub mod InWords
+pub mod Example

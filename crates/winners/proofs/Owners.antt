@@ -18,7 +18,7 @@ use Rattle.book.specs.Sound.{Sound}
 use Rattle.winners.specs.Combinations.{market, Combination, Rising}
 use Rattle.winners.specs.Surpluses.{rising-to}
 use Rattle.winners.specs.Weighed.{owners-of, six}
-use Rattle.winners.specs.Listed.{Listed}
+use Rattle.winners.specs.ClientLists.{Rising-list}
 use Rattle.winners.proofs.Picks.{rising-more}
 use Rattle.winners.proofs.Six.{map-at}
 
@@ -59,5 +59,6 @@ module _ (b : Book) (bids : List ℕ) (count : ℕ) (few : count ≤ 6) (long : 
       let before : j < length is = omega (arith, there) in
       le-trans (le-of-eq (ap suc (client j before))) (le-trans (r j k l there) (le-of-eq (sym (client k there)))))
 
-  pub owners-listed : Sound b → Combination b (take count bids) → Rising b (take count bids) → Listed (six (owners-of b bids count)) count
+  pub owners-listed : Sound b → Combination b (take count bids) → Rising b (take count bids)
+      → Rising-list (six (owners-of b bids count)) count
   owners-listed s c r = record { few = few; rising = rw owners-take (rising-more (clients b) 6 0 _ (s .n-high) (owners-rise c r)) }

@@ -21,7 +21,7 @@ use Rattle.market.proofs.Bools.{either}
 use Rattle.winners.specs.Greatest.{discarded}
 use Rattle.winners.specs.Surplus.{any, picked}
 use Rattle.winners.proofs.Surplus.{picked-true}
-use Rattle.winners.specs.Listed.{Listed}
+use Rattle.winners.specs.ClientLists.{Rising-list}
 use Rattle.winners.specs.Surpluses.{rising-to}
 
 -- clients that rise lie between
@@ -110,7 +110,7 @@ module _ (cs : List ℕ) (L : ℕ) where
       set-of-add 6 (at cs j - 1) (early j) (early (j + 1)) (omega arith) (absent j t l) (present j t l y) (later j t l)
 
 -- the clients of a list are from 1 to 6
-pub listed-range : (clients : List ℕ) (count j : ℕ) → Listed clients count → length clients ≡ 6 → j < count → (1 ≤ getD clients j 0)
+pub listed-range : (clients : List ℕ) (count j : ℕ) → Rising-list clients count → length clients ≡ 6 → j < count → (1 ≤ getD clients j 0)
     × (getD clients j 0 ≤ 6)
 listed-range clients count j h e l =
     let few = h .few in

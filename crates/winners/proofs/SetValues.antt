@@ -17,7 +17,7 @@ use Rattle.book.specs.Book.{Book}
 use Rattle.winners.specs.Greatest.{greatest, greatest-without}
 use Rattle.winners.specs.Surplus.{picked, surplus}
 use Rattle.winners.specs.Surpluses.{rising-to, surplus-table}
-use Rattle.winners.specs.Listed.{Listed, Discards}
+use Rattle.winners.specs.ClientLists.{Rising-list, Discards}
 use Rattle.winners.specs.Searching.{Sigma-found}
 use Rattle.winners.proofs.Greatest.{greatest-all}
 use Rattle.winners.proofs.Picks.{byte-picks, picked-none}
@@ -61,7 +61,7 @@ module _ (b : Book) (cs : List ℕ) where
       (ap (λ (d : ℕ). greatest b d) ed ∙ ap (λ (out : ℕ → Bool). greatest-without b out) (fun-ext (byte-picks 6 cs L h)))
 
 -- the whole table
-pub table-done : (b : Book) (clients ds sigma : List ℕ) (count end v : ℕ) → Listed clients count → Discards clients count ds
+pub table-done : (b : Book) (clients ds sigma : List ℕ) (count end v : ℕ) → Rising-list clients count → Discards clients count ds
     → end ≡ 2 ^ count
     → v ≡ greatest b 0 → Sigma-found b v ds end sigma → sigma ≡ surplus-table b (take count clients) count
 unfolding surplus-table

@@ -15,7 +15,7 @@ use Rattle.book.specs.Sound.{Sound, Shaped}
 use Rattle.winners.specs.Greatest.{greatest}
 use Rattle.winners.specs.Surplus.{surplus, Surplus-is}
 use Rattle.winners.specs.Surpluses.{list-good, list-refusal, surplus-table, Surpluses-are}
-use Rattle.winners.specs.Listed.{Listed}
+use Rattle.winners.specs.ClientLists.{Rising-list}
 use Rattle.winners.proofs.Picks.{rising-more}
 use Rattle.winners.proofs.Refusals.{refused-not-zero}
 use Rattle.winners.proofs.Surplus.{surplus-is}
@@ -31,7 +31,7 @@ table-surplus b s cs w sigma few e L l =
     rw entry (surplus-is b s cs L)
 
 -- a list that is good is one of at most six clients
-pub good-listed : (b : Book) → Sound b → (cs : List ℕ) (w : ℕ) → list-good b cs w ≡ true → Listed cs w
+pub good-listed : (b : Book) → Sound b → (cs : List ℕ) (w : ℕ) → list-good b cs w ≡ true → Rising-list cs w
 unfolding list-good
 good-listed b s cs w h =
     let (few, rises) = and-eq-true-iff (leb w 6) _ .0 h in

@@ -1,7 +1,6 @@
--- What holds of the array that the search looks up: it lays out the book's market without the bids that never fit. Its bids are counted
--- from 0: their weights, and from places 48 and 96 on their hours and links; from place 144 on each client's first bid, by the number of
--- clients from it on to the sixth, and from place 159 on its largest weight. Cited by the contracts of src/values.rt; proved in
--- proofs/Preparing.antt. Assumes nothing: these are definitions.
+-- What holds of the array that the search looks up: it lays out the book's market without the bids that never fit, by the places of
+-- Places.antt. Bids are counted from 0. Cited by the contracts of src/values.rt; proved in proofs/Preparing.antt. Assumes nothing: these
+-- are definitions.
 use mathlib.Core.Path.{_≡_}
 use mathlib.Core.List.{List}
 use mathlib.Core.Logic.{_≢_}
@@ -49,7 +48,7 @@ pub record Ready (xs : List ℕ) : Type 0 where
   pub hours-few : (i : ℕ) → i < no-link → getD xs (hours-from + i) 0 ≤ lanes-full
   pub rises : (i : ℕ) → i < no-link → i < getD xs (links-from + i) 0
 
--- first bids and largest weights of clients that stand, by the clients from each on; others have none
+-- first bids and largest weights of clients that stand, by slot; others have none
 pub record Standing (b : Book) (xs : List ℕ) : Type 0 where
   pub first : (c : ℕ) → 1 ≤ c → c ≤ 6 → standing b c ≡ true → Linked (fitting b) c 0 (getD xs (firsts-from + (7 - c)) 0)
   pub gone : (c : ℕ) → 1 ≤ c → c ≤ 6 → standing b c ≡ false → getD xs (firsts-from + (7 - c)) 0 ≡ no-link

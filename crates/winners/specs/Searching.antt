@@ -1,6 +1,5 @@
 -- What the private functions ask of their caller: an array that lays out a market for the search (Prepared.antt). For one discard byte it
--- also holds ceilings, by the clients left, from place 152 on. No public function asks
--- anything. Assumes nothing: these are definitions.
+-- also holds ceilings, by the clients left. No public function asks anything. Assumes nothing: these are definitions.
 use mathlib.Core.Path.{_≡_}
 use mathlib.Core.List.{List}
 use mathlib.Core.Logic.{_⊎_}

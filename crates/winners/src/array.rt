@@ -1,5 +1,6 @@
 // One array for all that the search looks up whoever is discarded: for each bid its weight, its hours in lanes and the next bid of its
 // client; for each client that stands its first bid and the largest weight among its bids. Its places are those of places.rt.
+use crate::hours;
 use crate::lanes;
 use crate::places::CEILINGS;
 use crate::places::END;
@@ -11,12 +12,11 @@ use crate::places::NO_LINK;
 use book::Book;
 ghost use mathlib.Core.Path.{_≡_};
 ghost use mathlib.Core.Bool.{cond};
-ghost use Prim.Native.Nat.{_*_, _-_, _≤_, _<_};
+ghost use Prim.Native.Nat.{_-_, _≤_, _<_};
 ghost use lib.Bits.{bitAnd};
 ghost use lib.Dec.{eqb};
-ghost use lib.ListN.{length, getD};
+ghost use lib.ListN.{length};
 ghost use Rattle.book.specs.Book.{supplies};
-ghost use Rattle.book.specs.Lists.{row};
 ghost use Rattle.book.specs.Value.{book-of, sound-number};
 ghost use Rattle.winners.specs.Lanes.{Bytes, guards};
 ghost use Rattle.winners.specs.Places.{no-link, places-end};
@@ -54,20 +54,6 @@ fn wide(amount: u32) -> u64
     amount as u64
 }
 
-// The four hours of the bid at a place.
-fn hours_at(hours: &[u8], i: usize) -> [u8; 4]
-    requires { ⌜ (i < 48) × (length (now hours) ≡ 192) ⌝ }
-    ensures { λ r. ⌜ r ≡ row 4 (4 * i) (λ p. getD (now (hours .entry)) p 0) ⌝ }
-    ensures { λ _. ⌜ Bytes (now (hours .entry)) ⌝ }
-{
-    let at = 4 * i;
-    let a = hours[at];
-    let b = hours[at + 1];
-    let c = hours[at + 2];
-    let d = hours[at + 3];
-    [a, b, c, d]
-}
-
 // All that is stored for the bids: they are passed from the last back, so that each is linked to its client's next. A bid's weight is its
 // amount. Those that ask for more than there is are nobody's.
 fn look_up(book: Book, used: u64, looks: &mut [u64; END])
@@ -84,7 +70,7 @@ fn look_up(book: Book, used: u64, looks: &mut [u64; END])
     let mut i = book.m as usize;
     while 0 < i {
         i = i - 1;
-        let asked = lanes::packed(book.k as usize, hours_at(&hours, i));
+        let asked = lanes::packed(book.k as usize, hours::at_place(&hours, i));
         let slot = slot_of(client[i], used + asked);
         let weight = wide(amount[i]);
         let most = numbers::larger(looks[LARGEST + slot], weight);

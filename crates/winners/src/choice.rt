@@ -2,45 +2,78 @@
 use crate::hours;
 use book::Book;
 ghost use mathlib.Core.Path.{_≡_};
-ghost use Prim.Native.Nat.{_≤_};
-ghost use lib.ListN.{take};
+ghost use mathlib.Core.Bool.{_&&_, not};
+ghost use Prim.Native.Nat.{_+_, _-_, _≤_, _<_};
+ghost use lib.Dec.{leb, ltb, eqb};
+ghost use lib.ListN.{getD, take};
+ghost use Rattle.book.specs.Lists.{within};
 ghost use Rattle.book.specs.Value.{book-of, sound-number};
 ghost use Rattle.market.specs.Combination.{is-combination};
 ghost use Rattle.book.specs.Book.{clients, supplies};
 ghost use Rattle.winners.specs.Combinations.{market, worth};
-ghost use Rattle.winners.specs.Following.{follows};
 ghost use Rattle.winners.specs.Weighed.{choice-good, owners-of, six};
 
-// Whether a bid may come next: there is one of that number, of a standing client after the last, and it fits what is left.
-fn may_follow(book: Book, number: usize, last: usize, left: [u8; 4]) -> bool
-    requires { ⌜ sound-number book ≡ 0 ⌝ }
-    ensures { λ r. ⌜ r ≡ follows (book-of book) last (take (book .k) left) number ⌝ }
+// Where a bid of that number stands in the arrays of m bids; at their front where there is none.
+fn place_of(m: usize, number: usize) -> usize
+    requires { ⌜ m ≤ 48 ⌝ }
+    ensures { λ r. ⌜ (r < 48) × (1 ≤ number → number ≤ m → r + 1 ≡ number) ⌝ }
 {
-    let owner = book::client_of(book, number) as usize;
-    let named = numbers::both(1 <= number, number <= book.m as usize);
-    let after = numbers::both(last < owner, owner <= book.n as usize);
-    let taken = numbers::both(after, book::is_standing(book, owner));
-    let asked = book::hours_of(book, number);
-    numbers::both(
-        numbers::both(named, taken),
-        hours::fit(book.k as usize, asked, left),
-    )
+    if number == 0 {
+        return 0;
+    }
+    if m < number {
+        return 0;
+    }
+    number - 1
 }
 
+// Whether one of n clients stands, by the caps.
+fn stands(n: usize, caps: [u16; 6], client: usize) -> bool
+    requires { ⌜ n ≤ 6 ⌝ }
+    ensures { λ r. ⌜ r ≡ (within 1 client n && not (eqb (getD caps (client - 1) 0) 0)) ⌝ }
+{
+    if client == 0 {
+        return false;
+    }
+    if n < client {
+        return false;
+    }
+    caps[client - 1] != 0
+}
+
+// Whether a bid may come next: there is one of that number, of a standing client after the last, and it fits what is left.
+fn may_follow(named: bool, last: usize, owner: usize, n: usize, stands: bool, fit: bool) -> bool
+    ensures { λ r. ⌜ r ≡ ((named && ((ltb last owner && leb owner n) && stands)) && fit) ⌝ }
+{
+    let after = numbers::both(last < owner, owner <= n);
+    let taken = numbers::both(after, stands);
+    numbers::both(numbers::both(named, taken), fit)
+}
+
+// The arrays are lent and not copied: there are up to six bids to look up.
 fn all_follow(book: Book, bids: [u8; 6], count: usize) -> bool
     requires { ⌜ sound-number book ≡ 0 ⌝ }
     requires { ⌜ count ≤ 6 ⌝ }
     ensures { λ r. ⌜ r ≡ is-combination (market (book-of book)) (clients (book-of book)) (supplies (book-of book)) (take count bids) ⌝ }
 {
+    let n = book.n as usize;
+    let m = book.m as usize;
+    let caps = book.caps;
     let mut ok = true;
     let mut last: usize = 0;
     let mut left = book::supply_of(book);
     let mut i: usize = 0;
     while i < count {
         let number = bids[i] as usize;
-        ok = numbers::both(ok, may_follow(book, number, last, left));
-        last = book::client_of(book, number) as usize;
-        let rest = hours::rest(book::hours_of(book, number), left);
+        let at = place_of(m, number);
+        let owner = book.client[at] as usize;
+        let asked = hours::at_place(&book.hours, at);
+        let named = numbers::both(1 <= number, number <= m);
+        let fit = hours::fit(book.k as usize, asked, left);
+        let next = may_follow(named, last, owner, n, stands(n, caps, owner), fit);
+        ok = numbers::both(ok, next);
+        last = owner;
+        let rest = hours::rest(asked, left);
         left = rest;
         i += 1;
     }

@@ -3,7 +3,7 @@ ghost use mathlib.Core.Path.{_≡_};
 ghost use mathlib.Core.Bool.{_&&_};
 ghost use lib.Dec.{leb};
 ghost use lib.ListN.{length, take};
-ghost use Rattle.winners.specs.Listed.{Listed, Room, Doubled, Discards};
+ghost use Rattle.winners.specs.ClientLists.{Rising-list, Room-to-double, Doubled, Discards};
 ghost use Rattle.winners.specs.Surpluses.{rising-to};
 
 // Whether the list has at most six clients, up to n and strictly rising.
@@ -27,7 +27,7 @@ pub(crate) fn is_rising(clients: [u8; 6], count: usize, n: usize) -> bool
 
 // After the bytes of the first `end` sets each of them once more, with one bit.
 fn double(discards: &mut [u8; 64], end: usize, bit: u8)
-    requires { ⌜ Room (now discards) end bit ⌝ }
+    requires { ⌜ Room-to-double (now discards) end bit ⌝ }
     ensures { λ _. ⌜ Doubled (now (discards .entry)) end bit end (now (discards .exit)) ⌝ }
     ensures { λ _. ⌜ length (now (discards .exit)) ≡ 64 ⌝ }
 {
@@ -40,7 +40,7 @@ fn double(discards: &mut [u8; 64], end: usize, bit: u8)
 
 // The discard bytes of all sets of the list, by their numbers: with each client the sets double.
 pub(crate) fn discards(clients: [u8; 6], count: usize) -> [u8; 64]
-    requires { ⌜ Listed clients count ⌝ }
+    requires { ⌜ Rising-list clients count ⌝ }
     ensures { λ r. ⌜ Discards clients count r ⌝ }
 {
     let mut discards = [0u8; 64];

@@ -12,27 +12,26 @@ use Rattle.book.proofs.lookups.amount_of.Statement.{statement}
 use Rattle.book.proofs.lookups.amount_of.Tie as tie
 
 -- past the test the number is a bid's
-stands : (c : tie.Else1) → let a = c .before .before .args in within 1 (a .number) (min (a .book .m) 48) ≡ true
+stands : (c : tie.Else1) → let a = c .before .before .args in within 1 (a .number) (min (a .t1 .m) 48) ≡ true
 stands c = sym (c .before .is-bid .ensures) ∙ not-false _ (c .if1 .left)
 
 returns : tie.Need-returns
 returns c =
     let a = c .before .before .args in
-    rw (amount-by-number (a .book) (a .number), sym (c .before .is-bid .ensures) ∙ not-true _ (c .if1 .taken))
-
-sub-result : tie.Need-sub-result
-sub-result c = omega (arith, within-true _ _ _ (stands (c .before)))
-
-mul-result : tie.Need-mul-result
-mul-result c = omega (arith, within-true _ _ _ (stands (c .before)))
-
-array-read-result : tie.Need-array-read-result
-array-read-result c = omega (arith, within-true _ _ _ (stands (c .before)))
+    rw (amount-by-number (a .t1) (a .number), sym (c .before .is-bid .ensures) ∙ not-true _ (c .if1 .taken))
 
 returns-2 : tie.Need-returns-2
 returns-2 c =
     let a = c .before .before .before .args in
-    rw (amount-by-number (a .book) (a .number), stands (c .before))
+    rw (amount-by-number (a .t1) (a .number), stands (c .before))
 
 pub amount-of-spec : {M : Type 1} → statement M
-amount-of-spec = tie.close (tie.spec (λ c κs. search needs) returns sub-result mul-result array-read-result returns-2)
+amount-of-spec =
+    tie.close
+    (tie.spec
+    (λ c κs. search needs)
+    returns
+    (λ c. omega (arith, within-true _ _ _ (stands c)))
+    (λ c. omega (arith, within-true _ _ _ (stands c)))
+    (λ c. omega (arith, within-true _ _ _ (stands c)))
+    returns-2)

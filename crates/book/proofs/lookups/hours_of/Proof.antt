@@ -12,7 +12,7 @@ use Rattle.book.proofs.lookups.hours_of.Statement.{statement}
 use Rattle.book.proofs.lookups.hours_of.Tie as tie
 
 -- past the test the number is a bid's
-stands : (c : tie.Else1) → let a = c .before .before .args in within 1 (a .number) (min (a .book .m) 48) ≡ true
+stands : (c : tie.Else1) → let a = c .before .before .args in within 1 (a .number) (min (a .t1 .m) 48) ≡ true
 stands c = sym (c .before .is-bid .ensures) ∙ not-false _ (c .if1 .left)
 
 numbered : (c : tie.Else1) → let a = c .before .before .args in (1 ≤ a .number) × (a .number ≤ 48)
@@ -21,16 +21,16 @@ numbered c = let w = within-true _ _ _ (stands c) in (w .0, omega (arith, w .1))
 returns : tie.Need-returns
 returns c =
     let a = c .before .before .args in
-    no-hours (a .book) (a .number) (sym (c .before .is-bid .ensures) ∙ not-true _ (c .if1 .taken))
+    no-hours (a .t1) (a .number) (sym (c .before .is-bid .ensures) ∙ not-true _ (c .if1 .taken))
 
 returns-2 : tie.Need-returns-2
 returns-2 c =
-    let third = c .before in
-    let second = third .before in
-    let first = second .before in
+    let third = c .before .before in
+    let second = third .before .before in
+    let first = second .before .before in
     let test = first .before .before in
     let a = test .before .before .args in
-    four-hours (a .book) (a .number) _ _ _ _ (stands test)
+    four-hours (a .t1) (a .number) _ _ _ _ (stands test)
     (first .of-kind .ensures) (second .of-kind2 .ensures) (third .of-kind3 .ensures) (c .of-kind4 .ensures)
 
 pub hours-of-spec : {M : Type 1} → statement M
@@ -39,17 +39,17 @@ hours-of-spec =
     (tie.spec
     (λ c κs. search needs)
     returns
-    (λ c. omega (arith, numbered (c .before)))
-    (λ c. omega (arith, numbered (c .before)))
-    (λ c. omega (arith, numbered (c .before)))
+    (λ c. omega (arith, numbered c))
+    (λ c. omega (arith, numbered c))
+    (λ c. omega (arith, numbered c))
     (λ c κs. search needs)
     (λ c. omega (arith, numbered (c .before .before)))
     (λ c. omega (arith, numbered (c .before .before)))
     (λ c κs. search needs)
-    (λ c. omega (arith, numbered (c .before .before .before)))
-    (λ c. omega (arith, numbered (c .before .before .before)))
+    (λ c. omega (arith, numbered (c .before .before .before .before)))
+    (λ c. omega (arith, numbered (c .before .before .before .before)))
     (λ c κs. search needs)
-    (λ c. omega (arith, numbered (c .before .before .before .before)))
-    (λ c. omega (arith, numbered (c .before .before .before .before)))
+    (λ c. omega (arith, numbered (c .before .before .before .before .before .before)))
+    (λ c. omega (arith, numbered (c .before .before .before .before .before .before)))
     (λ c κs. search needs)
     returns-2)

@@ -12,21 +12,21 @@ use Rattle.book.proofs.lookups.is_standing.Statement.{statement}
 use Rattle.book.proofs.lookups.is_standing.Tie as tie
 
 -- the test of the number, and past it the number is a client's
-tested : (c : tie.After-within) → let a = c .before .before .before .args in c .within .result ≡ within 1 (a .client) (min (a .book .n) 6)
+tested : (c : tie.After-within) → let a = c .before .before .args in c .within .result ≡ within 1 (a .client) (min (a .t1 .n) 6)
 tested c = rw (← c .before .smaller .ensures) (c .within .ensures)
 
-there : (c : tie.Else1) → let a = c .before .before .before .before .args in within 1 (a .client) (min (a .book .n) 6) ≡ true
+there : (c : tie.Else1) → let a = c .before .before .before .args in within 1 (a .client) (min (a .t1 .n) 6) ≡ true
 there c = sym (tested (c .before)) ∙ not-false _ (c .if1 .left)
 
 returns : tie.Need-returns
 returns c =
-    let a = c .before .before .before .before .args in
-    rw (standing-by-number (a .book) (a .client), sym (tested (c .before)) ∙ not-true _ (c .if1 .taken))
+    let a = c .before .before .before .args in
+    rw (standing-by-number (a .t1) (a .client), sym (tested (c .before)) ∙ not-true _ (c .if1 .taken))
 
 returns-2 : tie.Need-returns-2
 returns-2 c =
-    let a = c .before .before .before .before .before .args in
-    rw (standing-by-number (a .book) (a .client), there (c .before))
+    let a = c .before .before .before .before .args in
+    rw (standing-by-number (a .t1) (a .client), there (c .before))
 
 pub is-standing-spec : {M : Type 1} → statement M
 is-standing-spec =
@@ -36,7 +36,7 @@ is-standing-spec =
     (λ c κs. search needs)
     (λ c κs. search needs)
     returns
-    (λ c. omega (arith, within-true _ _ _ (there (c .before))))
-    (λ c. omega (arith, within-true _ _ _ (there (c .before))))
-    (λ c. omega (arith, within-true _ _ _ (there (c .before))))
+    (λ c. omega (arith, within-true _ _ _ (there c)))
+    (λ c. omega (arith, within-true _ _ _ (there c)))
+    (λ c. omega (arith, within-true _ _ _ (there c)))
     returns-2)

@@ -12,7 +12,7 @@ use Rattle.book.proofs.Answering.{
   refused-by-one,
   refused-by-two,
   refused-by-three,
-  Laid,
+  Layout-inside,
   laid,
   supplies-are,
   reserves-are,
@@ -30,7 +30,7 @@ two c = sym (c .before .are-counts-good .ensures) ∙ not-false _ (c .if2 .left)
 
 -- the counts that were read are in range, and statuses and bids stand inside the bytes
 counted : (c : tie.After-bids) →
-    Laid (c .before .before .before .before .before .before .before .before .args .input .now) (c .before .before .kinds .result)
+    Layout-inside (c .before .before .before .before .before .before .before .before .args .input .now) (c .before .before .kinds .result)
     (c .before .clients .result) (c .bids .result)
 counted c =
     let clients = c .before in

@@ -6,7 +6,7 @@ use Rattle.book.specs.Questions.{book-refusal}
 use Rattle.book.proofs.Answering.{
   refused-is,
   accepted-is,
-  Laid,
+  Layout-inside,
   laid,
   caps-are,
   clients-are,
@@ -19,7 +19,7 @@ use Rattle.book.proofs.reading.read_bids.Statement.{statement}
 use Rattle.book.proofs.reading.read_bids.Tie as tie
 
 -- the counts are in range, and statuses and bids stand inside the bytes
-counted : (c : tie.Start) → Laid (c .args .input .now) (c .args .k) (c .args .n) (c .args .m)
+counted : (c : tie.Start) → Layout-inside (c .args .input .now) (c .args .k) (c .args .n) (c .args .m)
 counted c = let t = c .pre in laid _ _ _ _ (t .two) (t .kinds) (t .clients) (t .bids)
 
 mul-statuses : tie.Need-mul-statuses

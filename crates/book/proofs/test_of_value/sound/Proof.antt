@@ -14,7 +14,7 @@ unfolding sound-number
 returns c = rw (sym (c .before .are-counts-ranged .ensures) ∙ not-true _ (c .if1 .taken))
 
 -- past the first test each count is in its range
-ranged : (c : tie.Else1) → let v = c .before .before .before .before .before .args .book in counts-ranged (v .k) (v .n) (v .m) ≡ true
+ranged : (c : tie.Else1) → let v = c .before .before .args .t1 in counts-ranged (v .k) (v .n) (v .m) ≡ true
 ranged c = sym (c .before .are-counts-ranged .ensures) ∙ not-false _ (c .if1 .left)
 
 kinds-good-requires : tie.Need-kinds-good-requires
@@ -24,21 +24,21 @@ returns-2 : tie.Need-returns-2
 unfolding sound-number
 returns-2 c =
     let counts = c .before .before .before .before in
-    let v = counts .before .before .before .before .before .args .book in
+    let v = counts .before .before .args .t1 in
     let no = sym (c .before .kinds-good .ensures) ∙ not-true _ (c .if2 .taken) in
     rw (ranged counts, entries-held v (ranged-room _ _ _ (ranged counts)), no)
 
 bids-number-requires : tie.Need-bids-number-requires
 bids-number-requires c κs =
-    let kinds = c .before .before .before .before .before .before in
+    let kinds = c .before .before .before .before in
     ranged-room _ _ _ (ranged (kinds .before .before .before .before))
 
 returns-3 : tie.Need-returns-3
 unfolding sound-number
 returns-3 c =
-    let kinds = c .before .before .before .before .before .before .before in
+    let kinds = c .before .before .before .before .before in
     let counts = kinds .before .before .before .before in
-    let v = counts .before .before .before .before .before .args .book in
+    let v = counts .before .before .args .t1 in
     let yes = sym (kinds .before .kinds-good .ensures) ∙ not-false _ (kinds .if2 .left) in
     rw (ranged counts, entries-held v (ranged-room _ _ _ (ranged counts)), yes) (c .bids-number .ensures (v .supply))
 

@@ -1,10 +1,6 @@
 -- `judge::chain::answer_over` meets its contract. Assumes nothing.
 use borrow.Author.Needs.{needs}
 use mathlib.Core.Path.{_∙_}
-use native.Mathlib.Omega.{arith}
-use Rattle.certificate.specs.Figures.{certificate}
-use Rattle.certificate.specs.InRange.{Ranges}
-use Rattle.certificate.specs.declared.ranges.Figures.{Figures}
 use Rattle.book.specs.Value.{book-of}
 use Rattle.judge.proofs.Parts.{held-ranges, form-no, sheet-no, sheet-yes}
 use Rattle.judge.proofs.chain.answer_over.Statement.{statement}
@@ -25,30 +21,18 @@ returns-2 c =
     c .refused2 .ensures
     ∙ sheet-no _ _ (start .pre) _ (read .read .ensures) (past .if1 .left) _ (judged .number-of .ensures) (c .before .if2 .taken)
 
--- past all questions the figures that were read are in range
-abbrev figures : (c : tie.Else2) → Figures
-figures c =
-    let judged = c .before in
-    let past = judged .before .before .before in
-    past .before .before .read .result .figures
-
-ranges : (c : tie.Else2) → Ranges (certificate (figures c))
-ranges c =
+-- past all questions the figures are in range
+accepted-requires : tie.Need-accepted-requires
+accepted-requires c κs =
     let judged = c .before in
     let past = judged .before .before .before in
     let read = past .before .before in
     let book = read .before .before .before .args .book in
-    held-ranges (book-of book) (read .read .result .bids) (figures c) _ (judged .number-of .ensures) (c .if2 .left)
-
-cast-accepted : tie.Need-cast-accepted
-cast-accepted c = record { fits = omega (arith, ranges (c .before .before) .few) }
-
-cast-accepted-2 : tie.Need-cast-accepted-2
-cast-accepted-2 c = record { fits = omega (arith, ranges (c .before .before .before) .q-most) }
+    held-ranges (book-of book) (read .read .result .bids) (read .read .result .figures) _ (judged .number-of .ensures) (c .if2 .left)
 
 returns-3 : tie.Need-returns-3
 returns-3 c =
-    let accepted = c .before .before .before .before in
+    let accepted = c .before in
     let judged = accepted .before in
     let past = judged .before .before .before in
     let read = past .before .before in
@@ -67,7 +51,5 @@ answer-over-spec =
     (λ c κs. search needs)
     (λ c κs. search needs)
     returns-2
-    cast-accepted
-    cast-accepted-2
-    (λ c κs. search needs)
+    accepted-requires
     returns-3)

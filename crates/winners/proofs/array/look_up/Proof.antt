@@ -64,8 +64,8 @@ loop-again c =
     let v = start .args .book in
     let h = start .pre .0 in
     let i = l .i - 1 in
-    let bytes = packed .before .hours-at .ensures .1 in
-    let hours = packed-is v h i (inside turn) _ _ (packed .before .hours-at .ensures .0) (packed .packed .ensures .0) in
+    let bytes = packed .before .at-place .ensures .1 in
+    let hours = packed-is v h i (inside turn) _ _ (packed .before .at-place .ensures .0) (packed .packed .ensures .0) in
     let whose = slot-is v h i (inside turn) bytes _ _ _ _ (start .pre .1 .0) hours (owned packed .0)
     (c .before .before .before .before .slot-of .ensures .0) in (
       search needs,

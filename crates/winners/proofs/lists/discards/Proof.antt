@@ -1,4 +1,4 @@
--- `winners::lists::discards` meets its contract. The loop keeps the bytes of the sets of the clients passed. Assumes nothing.
+-- `lists::discards` meets its contract. The loop keeps the bytes of the sets of the clients passed. Assumes nothing.
 use borrow.Author.Needs.{needs}
 use mathlib.Core.Path.{_≡_}
 use Prim.Native.Nat.{_-_, _≤_}

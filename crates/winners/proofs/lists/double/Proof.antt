@@ -1,11 +1,11 @@
--- `winners::lists::double` meets its contract. The loop keeps the first entries and those repeated so far. Assumes nothing.
+-- `lists::double` meets its contract. The loop keeps the first entries and those repeated so far. Assumes nothing.
 use borrow.Author.Needs.{needs}
 use mathlib.Core.Path.{_≡_, refl}
 use Prim.Native.Nat.{_-_, _≤_}
 use native.Mathlib.Omega.{arith}
 use native.Mathlib.Nat.{le-antisymm}
 use lib.ListN.{length}
-use Rattle.winners.specs.Listed.{Doubled}
+use Rattle.winners.specs.ClientLists.{Doubled}
 use Rattle.winners.proofs.Doubling.{doubled-next}
 use Rattle.winners.proofs.lists.double.Statement.{statement}
 use Rattle.winners.proofs.lists.double.Tie as tie

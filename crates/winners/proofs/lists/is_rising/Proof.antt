@@ -1,4 +1,4 @@
--- `winners::lists::is_rising` meets its contract. The loop keeps the answer so far with that of the clients left. Assumes nothing.
+-- `lists::is_rising` meets its contract. The loop keeps the answer so far with that of the clients left. Assumes nothing.
 use borrow.Author.Needs.{needs}
 use borrow.Author.Tests.{le-leb, lt-leb}
 use mathlib.Core.Path.{_≡_, refl}

@@ -1,4 +1,4 @@
--- `values::search::search_from` meets its contract. The measure is the number of clients left; the loop keeps the choice among the bids
+-- `search::search_from` meets its contract. The measure is the number of clients left; the loop keeps the choice among the bids
 -- passed, from the floor, in every market that the array lays out. Assumes nothing.
 use borrow.Author.Needs.{needs}
 use mathlib.Core.Path.{_≡_, refl, sym, _∙_}

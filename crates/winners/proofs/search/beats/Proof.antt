@@ -1,4 +1,4 @@
--- `values::search::beats` meets its contract. Assumes nothing.
+-- `search::beats` meets its contract. Assumes nothing.
 use borrow.Author.Needs.{needs}
 use Rattle.winners.proofs.search.beats.Statement.{statement}
 use Rattle.winners.proofs.search.beats.Tie as tie

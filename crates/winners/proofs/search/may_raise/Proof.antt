@@ -1,4 +1,4 @@
--- `values::search::may_raise` meets its contract. Assumes nothing.
+-- `search::may_raise` meets its contract. Assumes nothing.
 use borrow.Author.Needs.{needs}
 use borrow.Author.Tests.{ne-eqb}
 use mathlib.Core.Path.{_≡_}

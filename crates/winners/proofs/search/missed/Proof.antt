@@ -1,4 +1,4 @@
--- `values::search::missed` meets its contract. Assumes nothing.
+-- `search::missed` meets its contract. Assumes nothing.
 use native.Mathlib.Omega.{arith}
 use Rattle.winners.proofs.search.missed.Statement.{statement}
 use Rattle.winners.proofs.search.missed.Tie as tie

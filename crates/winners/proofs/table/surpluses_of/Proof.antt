@@ -7,7 +7,7 @@ use Prim.Native.Nat.{ℕ, _^_}
 use native.Mathlib.Nat.{min-eq-left}
 use Rattle.book.specs.Value.{book-of, sound-number}
 use Rattle.book.proofs.Held.{held-shaped, sound-held}
-use Rattle.winners.specs.Listed.{Listed}
+use Rattle.winners.specs.ClientLists.{Rising-list}
 use Rattle.winners.specs.Surpluses.{list-good}
 use Rattle.winners.proofs.HeldBids.{clients-are}
 use Rattle.winners.proofs.Refusals.{refusal-none}
@@ -30,7 +30,7 @@ good : (c : tie.Else2) → let a = c .before .before .before .before .before .ar
     (a .count) ≡ true
 good c = sym (tested (c .before)) ∙ not-false _ (c .if2 .left)
 
-listed : (c : tie.Else2) → let a = c .before .before .before .before .before .args in Listed (a .clients) (a .count)
+listed : (c : tie.Else2) → let a = c .before .before .before .before .before .args in Rising-list (a .clients) (a .count)
 listed c = good-listed _ (sound-held _ (none (c .before .before .before))) _ _ (good c)
 
 returns : tie.Need-returns

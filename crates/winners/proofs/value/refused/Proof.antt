@@ -1,4 +1,4 @@
--- `winners::value::refused` meets its contract. Assumes nothing.
+-- `value::refused` meets its contract. Assumes nothing.
 use borrow.Author.Needs.{needs}
 use Rattle.winners.proofs.value.refused.Statement.{statement}
 use Rattle.winners.proofs.value.refused.Tie as tie

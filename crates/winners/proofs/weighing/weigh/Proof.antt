@@ -9,7 +9,7 @@ use native.Mathlib.Nat.{min-eq-left}
 use lib.ListN.{length, take}
 use Rattle.book.specs.Value.{book-of, sound-number}
 use Rattle.book.proofs.Held.{held-shaped, sound-held}
-use Rattle.winners.specs.Listed.{Listed}
+use Rattle.winners.specs.ClientLists.{Rising-list}
 use Rattle.winners.specs.Surpluses.{surplus-table}
 use Rattle.winners.specs.Weighed.{choice-good}
 use Rattle.winners.proofs.Owners.{owners-take, owners-listed}
@@ -59,7 +59,7 @@ returns-3 c =
 
 listed : (c : tie.After-owners-of)
     → let a = c .before .before .before .before .before .before .before .before .before .before .before .args in
-    Listed (c .owners-of .result) (a .count)
+    Rising-list (c .owners-of .result) (a .count)
 listed c =
     let chosen = c .before .before .before .before .before .before .before in
     let start = chosen .before .before .before .before in

@@ -10,12 +10,12 @@ use Rattle.winners.specs.Surplus.{picked}
 use Rattle.winners.specs.Surpluses.{rising-to}
 
 -- at most six clients from 1 to 6, strictly rising
-pub record Listed (clients : List ℕ) (count : ℕ) : Type 0 where
+pub record Rising-list (clients : List ℕ) (count : ℕ) : Type 0 where
   pub few : count ≤ 6
   pub rising : rising-to 6 0 (take count clients) ≡ true
 
 -- room for the sets of one client more, and for its bit in each byte
-pub record Room (discards : List ℕ) (end bit : ℕ) : Type 0 where
+pub record Room-to-double (discards : List ℕ) (end bit : ℕ) : Type 0 where
   pub long : length discards ≡ 64
   pub few : end ≤ 32
   pub low : bit ≤ 32
