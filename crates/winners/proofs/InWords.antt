@@ -1,21 +1,23 @@
 -- What the contracts say in words leaves no other answer than what they say by value: whatever is the greatest value in words is the
--- recursion's, and whatever is σ in words is σ; bids that are weighed with number 0 are a combination by rising client; and all clients of
--- a sound book are a list that is not refused. Nothing cites it. Assumes nothing.
-use mathlib.Core.Path.{_≡_, refl, sym, _∙_}
+-- recursion's, and whatever is σ in words is σ; bids that are weighed with number 0 are a combination by rising client, and at most six
+-- that are one pass question 8; and all clients of a sound book are a list that is not refused. Nothing cites it. Assumes nothing.
+use mathlib.Core.Path.{_≡_, refl, sym, ap, _∙_}
 use mathlib.Core.Bool.{Bool, true, false, _&&_, cond, false≢true, and-eq-true-iff}
 use mathlib.Core.List.{List, [], _∷_}
-use Prim.Native.Nat.{ℕ, zero, suc, _-_, _^_, _≤_, _<_}
+use Prim.Native.Nat.{ℕ, _-_, _^_, _≤_, _<_}
 use native.Mathlib.Omega.{arith}
-use borrow.Author.Tests.{eq-eqb}
+use borrow.Author.Tests.{le-leb, eq-eqb}
 use lib.Dec.{leb, eqb}
 use lib.ListN.{getD, take}
+use Rattle.book.specs.Lists.{all-to}
 use Rattle.book.specs.Book.{Book, clients}
 use Rattle.book.specs.Layout.{book-in}
 use Rattle.book.specs.Questions.{book-refusal}
 use Rattle.book.specs.Sound.{Shaped}
 use Rattle.book.proofs.SoundRead.{sound-in}
+use Rattle.book.proofs.Tests.{all-to-true}
 use Rattle.winners.specs.Combinations.{Combination, Rising, worth, Combinations-agree}
-use Rattle.winners.specs.Greatest.{greatest-without, discarded, greatest}
+use Rattle.winners.specs.Greatest.{discarded, greatest}
 use Rattle.winners.specs.Surplus.{picked, surplus, Surplus-is}
 use Rattle.winners.specs.Worth.{Worth-is}
 use Rattle.winners.specs.Surpluses.{rising-to, list-good, list-refusal, Surpluses-are, All-surpluses-are}
@@ -63,19 +65,22 @@ module _ (r : ℕ) (b : Book) (shaped : Shaped b) where
         let good = question-8 (eqb r 0) (choice-good b is w) best r (eq-eqb r 0) (sym (k .numbered) ∙ z) in
         k .agree .0 (and-eq-true-iff (leb w 6) _ .0 good .1)
 
--- the first n of six clients rise to n
-all-rise : (n : ℕ) → n ≤ 6 → (leb n 6 && rising-to n 0 (take n (1 ∷ 2 ∷ 3 ∷ 4 ∷ 5 ∷ 6 ∷ []))) ≡ true
-unfolding rising-to
-all-rise zero l = refl
-all-rise (suc zero) l = refl
-all-rise (suc (suc zero)) l = refl
-all-rise (suc (suc (suc zero))) l = refl
-all-rise (suc (suc (suc (suc zero)))) l = refl
-all-rise (suc (suc (suc (suc (suc zero))))) l = refl
-all-rise (suc (suc (suc (suc (suc (suc zero)))))) l = refl
-all-rise (suc (suc (suc (suc (suc (suc (suc n))))))) l = absurd (omega arith)
+  combination-chosen : (is : List ℕ) (w : ℕ) (a : Weighed) → Weighed-is r b is w a → w ≤ 6
+      → Combination b (take w is) → Rising b (take w is) → choice-good b is w ≡ true
+  unfolding choice-good Combinations-agree
+  combination-chosen is w a k few c rising = and-eq-true-iff (leb w 6) _ .1 (le-leb w 6 few, k .agree .1 (c, rising))
+
+-- the first n of six clients rise to n: one test, computed
+abbrev rises : (n : ℕ) → Bool
+rises n = leb n 6 && rising-to n 0 (take n (1 ∷ 2 ∷ 3 ∷ 4 ∷ 5 ∷ 6 ∷ []))
+
+all-rise : (n : ℕ) → 1 ≤ n → n ≤ 6 → rises n ≡ true
+unfolding rising-to all-to
+all-rise = all-to-true rises 6 refl
 
 all-unrefused : (bs : List ℕ) (number value : ℕ) (sigma : List ℕ) → All-surpluses-are bs number value sigma
     → book-refusal bs ≡ 0 → number ≡ 0
 unfolding list-refusal list-good
-all-unrefused bs number value sigma k e = k .numbered ∙ rw (e, all-rise (clients (book-in bs)) (sound-in bs e .n-high))
+all-unrefused bs number value sigma k e =
+    let s = sound-in bs e in
+    k .numbered ∙ rw e (ap (λ (t : Bool). cond t 0 16) (all-rise (clients (book-in bs)) (s .n-low) (s .n-high)))
