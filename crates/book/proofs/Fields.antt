@@ -1,15 +1,14 @@
--- Big-endian numbers, one byte at a time: the step of the loop that reads them, what is read past the end, and how large they are.
+-- Big-endian numbers: a number in halves and in quarters, what is read past the end, and the test that a number stands before it.
 -- Cited by the proofs of src/bytes.rt. Assumes nothing.
 use mathlib.Core.Path.{_≡_, refl, sym, _∙_}
 use mathlib.Core.List.{List}
 use Prim.Native.Nat.{ℕ, zero, suc, _+_, _*_, _-_, _^_, _≤_, _<_}
-use native.Mathlib.Numerals.{add-one}
-use native.Mathlib.Nat.{add-zero, mul-left-comm, pow-succ', pow-le-pow-right}
+use native.Mathlib.Nat.{add-zero, mul-left-comm, pow-succ'}
 use native.Mathlib.Decide.{decLe}
 use native.Mathlib.Omega.{arith}
 use lib.ListN.{length, List·getD-eq-default}
 use borrow.Author.Tests.{le-leb, lt-leb}
-use lib.Dec.{leb, lit<}
+use lib.Dec.{leb}
 use Rattle.book.specs.Bytes.{byte, field}
 
 -- past the end a byte is 0, and so is every number
@@ -21,18 +20,6 @@ unfolding field
 field-past at zero bs h = refl
 field-past at (suc n) bs h = omega (arith, field-past at n bs h, byte-past (at + n) bs (omega arith))
 
--- one byte more: v is the number so far, b the byte after it
-pub field-next : (at n : ℕ) (bs : List ℕ) (v b : ℕ) → v ≡ field at n bs → b ≡ byte (at + n) bs → v * 256 + b ≡ field at (n + 1) bs
-unfolding field
-field-next at n bs v b h k = rw add-one (omega arith)
-
--- a number of n bytes is below 256 ^ n, and with one byte more it fits in 64 bits while n is below 8
-pub digit-below : (n v b : ℕ) → v < 256 ^ n → b < 256 → v * 256 + b < 256 ^ (n + 1)
-digit-below n v b h l = rw (add-one, pow-succ') (omega arith)
-
-pub digit-fits : (n v b : ℕ) → n < 8 → v < 256 ^ n → b < 256 → v * 256 + b < 2 ^ 64
-digit-fits n v b h l k = omega (arith, digit-below n v b l k, pow-le-pow-right {n = 256} (lit< tt) {i = n + 1} {j = 8} (omega arith))
-
 -- a number of m + n bytes is that of the first m and that of the n after them
 pub field-join : (at m n : ℕ) (bs : List ℕ) → field at m bs * 256 ^ n + field (at + m) n bs ≡ field at (m + n) bs
 unfolding field
@@ -41,6 +28,16 @@ field-join at m (suc n) bs =
     let place : at + m + n ≡ at + (m + n) = omega arith in
     let more : m + suc n ≡ suc (m + n) = omega arith in
     rw (pow-succ', more, place) (omega (arith, field-join at m n bs, mul-left-comm (field at m bs) 256 (256 ^ n)))
+
+-- eight bytes as four numbers of two
+pub field-quarters : (at : ℕ) (bs : List ℕ)
+    → field at 2 bs * 281474976710656 + field (at + 2) 2 bs * 4294967296 + field (at + 4) 2 bs * 65536 + field (at + 6) 2 bs ≡ field at 8 bs
+field-quarters at bs =
+    let second : field at 2 bs * 65536 + field (at + 2) 2 bs ≡ field at 4 bs = field-join at 2 2 bs in
+    let sixth : at + 4 + 2 ≡ at + 6 = omega arith in
+    let fourth : field (at + 4) 2 bs * 65536 + field (at + 6) 2 bs ≡ field (at + 4) 4 bs = rw (← sixth) (field-join (at + 4) 2 2 bs) in
+    let halves : field at 4 bs * 4294967296 + field (at + 4) 4 bs ≡ field at 8 bs = field-join at 4 4 bs in
+    omega (arith, second, fourth, halves)
 
 pub field-two : (at : ℕ) (bs : List ℕ) → byte at bs * 256 + byte (at + 1) bs ≡ field at 2 bs
 unfolding field

@@ -12,6 +12,7 @@ pub mod RowLaws
 pub mod Tests
 pub mod Lists
 pub mod AskedHours
+pub mod Counted
 pub mod Tally
 pub mod ReservedHours
 pub mod HeldTests

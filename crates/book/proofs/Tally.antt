@@ -1,87 +1,51 @@
--- Each client's bids counted in an array, bid by bid, and the counts held to the limit, client by client. Cited by the proofs of
--- src/limit.rt. Assumes nothing.
+-- The counts of each client's bids held to the limit, client by client. Cited by the proofs of src/limit.rt. Assumes nothing.
 use mathlib.Core.Path.{_≡_, refl, sym, ap, ap₂, _∙_}
-use mathlib.Core.Bool.{Bool, true, _&&_, cond, and-eq-true-iff}
-use mathlib.Core.List.{List, [], _∷_}
-use Prim.Native.Nat.{ℕ, zero, suc, _+_, _-_, _≤_, _<_}
+use mathlib.Core.Bool.{Bool, true, false, _&&_, cond, true≢false, and-eq-true-iff}
+use mathlib.Core.List.{List}
+use Prim.Native.Nat.{ℕ, zero, suc, _+_, _*_, _/_, _%_, _^_, _≤_, _<_}
 use native.Mathlib.Numerals.{add-one}
-use native.Mathlib.Decide.{ℕ-discrete}
 use native.Mathlib.Omega.{arith}
 use lib.Dec.{leb, eqb}
-use lib.ListN.{length, getD, set, replicate, length-set, length-replicate, getD-replicate}
-use lib.Seq.{getD-set-same, getD-set-other}
-use borrow.Author.Tests.{eq-eqb, ne-eqb}
+use lib.ListN.{getD}
+use borrow.Author.Tests.{le-leb, lt-leb}
 use Rattle.book.specs.Lists.{within, all, all-to, count, row}
 use Rattle.book.specs.Book.{no-bid}
 use Rattle.book.specs.Questions.{bid-good, bids-of, few-bids}
 use Rattle.book.specs.Value.{bid-held}
 use Rattle.book.specs.Room.{named, Named}
 use Rattle.book.proofs.RowLaws.{row-length, row-at}
-use Rattle.book.proofs.Tests.{within-true, all-true}
+use Rattle.book.proofs.Tests.{within-true, all-true, all-to-true}
+use Rattle.book.proofs.Counted.{times, counted, counted-at}
 
--- how often a number stands in a list
-abbrev times : (c : ℕ) → List ℕ → ℕ
-times c xs = count (λ x. eqb x c) xs
-
-module _ (x : ℕ) (xs ys : List ℕ) (e : xs ≡ x ∷ ys) where
-  times-next : (c : ℕ) → times c xs ≡ cond (eqb x c) 1 0 + times c ys
-  unfolding count
-  times-next c = rw e
-
-  counts-own : (c : ℕ) → x ≡ c → times c xs ≡ 1 + times c ys
-  counts-own c q = times-next c ∙ (rw (eq-eqb x c q))
-
-  counts-other : (c : ℕ) → (x ≡ c → ⊥) → times c xs ≡ times c ys
-  counts-other c q = times-next c ∙ (rw (ne-eqb x c q) (omega arith))
-
--- counts so far: with those of the clients left they are those of all; and with how many are left at most m
-pub record Tally (zs xs : List ℕ) (left m : ℕ) (cs : List ℕ) : Type 0 where
-  pub long : length cs ≡ 7
-  pub kept : (c : ℕ) → c ≤ 6 → getD cs c 0 + times c xs ≡ times c zs
-  pub most : (c : ℕ) → c ≤ 6 → getD cs c 0 + left ≤ m
-
-pub tally-none : (zs : List ℕ) (m : ℕ) → Tally zs zs m m (replicate 7 0)
-tally-none zs m = record {
-  long = length-replicate {A = ℕ} 7 0;
-  kept = λ c l. omega (arith, getD-replicate {A = ℕ} 7 c 0 0 (omega arith));
-  most = λ c l. omega (arith, getD-replicate {A = ℕ} 7 c 0 0 (omega arith));
-}
-
-pub tally-next : (zs xs ys : List ℕ) (left m c v : ℕ) (cs : List ℕ) → xs ≡ c ∷ ys → c ≤ 6 → v ≡ getD cs c 0 + 1 → 0 < left
-    → Tally zs xs left m cs → Tally zs ys (left - 1) m (set cs c v)
-tally-next zs xs ys left m c v cs e l ev lm h =
-    let put : getD (set cs c v) c 0 ≡ v = getD-set-same cs c v 0 (omega (arith, h .long)) in
-    let stays : (d : ℕ) → (d ≡ c → ⊥) → getD (set cs c v) d 0 ≡ getD cs d 0 = λ d n. getD-set-other cs c d v 0 n in
-    record {
-      long = length-set cs c v ∙ h .long;
-      kept = λ d k. elim (ℕ-discrete d c) [
-        | yes q ↦ rw q (omega (arith, put, h .kept c l, counts-own c xs ys e c refl))
-        | no n ↦ omega (arith, stays d n, h .kept d k, counts-other c xs ys e d (λ q. n (sym q)))
-      ];
-      most = λ d k. elim (ℕ-discrete d c) [
-        | yes q ↦ rw q (omega (arith, put, h .most c l))
-        | no n ↦ omega (arith, stays d n, h .most d k)
-      ];
-    }
-
-pub tally-done : (clients xs : List ℕ) (left m : ℕ) (cs : List ℕ) → xs ≡ [] → Tally (row m 0 (λ i. getD clients i 0)) xs left m cs
-    → (c : ℕ) → c ≤ 6 → getD cs c 0 ≡ named c m clients
-unfolding count named
-tally-done clients xs left m cs e h c l = omega (arith, rw e at (h .kept c l))
+-- how often a client is named, in the number that holds all counts
+pub named-count : (c m : ℕ) (cs : List ℕ) → m ≤ 48 → counted (row m 0 (λ i. getD cs i 0)) / 2 ^ (8 * c) % 256 ≡ named c m cs
+unfolding named
+named-count c m cs l = counted-at c (row m 0 (λ i. getD cs i 0)) (omega (arith, row-length m 0 (λ i. getD cs i 0)))
 
 -- a client is named at most eight times
 unfoldable pub few-named : (m : ℕ) → List ℕ → (client : ℕ) → Bool
 few-named m cs c = leb (named c m cs) 8
 
--- the limit, one client more
-pub all-to-next : (p : ℕ → Bool) (n : ℕ) (ok t now : Bool) → now ≡ (ok && t) → t ≡ p (n + 1) → ok ≡ all-to n p → now ≡ all-to (n + 1) p
-unfolding all-to
-all-to-next p n ok t now e h q = rw (e, h, q, add-one)
-
--- a client's count against question 4's limit
-pub few-count : (m : ℕ) (cs : List ℕ) (c n : ℕ) → n ≡ named c m cs → leb n 8 ≡ few-named m cs c
+-- a client's count against the limit
+pub few-under : (m : ℕ) (cs : List ℕ) (c n : ℕ) → n ≡ named c m cs → n ≤ 8 → few-named m cs c ≡ true
 unfolding few-named
-few-count m cs c n e = ap (λ (k : ℕ). leb k 8) e
+few-under m cs c n e l = le-leb (named c m cs) 8 (omega arith)
+
+pub few-over : (m : ℕ) (cs : List ℕ) (c n : ℕ) → n ≡ named c m cs → 8 < n → few-named m cs c ≡ false
+unfolding few-named
+few-over m cs c n e l = lt-leb (named c m cs) 8 (omega arith)
+
+no-more : (t : Bool) → (t ≡ true → ⊥) → t ≡ false
+no-more true h = absurd (h refl)
+no-more false h = refl
+
+-- the limit, one client more, and the first that has too many bids
+pub few-next : (p : ℕ → Bool) (n : ℕ) → all-to n p ≡ true → p (n + 1) ≡ true → all-to (n + 1) p ≡ true
+unfolding all-to
+few-next p n h e = rw (add-one, h) (rw add-one at e)
+
+pub one-over : (p : ℕ → Bool) (n c : ℕ) → 1 ≤ c → c ≤ n → p c ≡ false → all-to n p ≡ false
+one-over p n c l k e = no-more (all-to n p) (λ h. true≢false (sym (all-to-true p n h c l k) ∙ e))
 
 all-to-same : (p q : ℕ → Bool) → ((c : ℕ) → p c ≡ q c) → (n : ℕ) → all-to n p ≡ all-to n q
 unfolding all-to

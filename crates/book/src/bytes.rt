@@ -1,6 +1,6 @@
 // Big-endian numbers at any place of any bytes. A byte past the end reads as 0 (specs/Bytes.antt).
 ghost use mathlib.Core.Path.{_≡_};
-ghost use Prim.Native.Nat.{_+_, _≤_, _<_, _^_};
+ghost use Prim.Native.Nat.{_+_, _≤_, _<_};
 ghost use lib.Dec.{leb};
 ghost use lib.ListN.{length};
 ghost use Rattle.book.specs.Bytes.{byte, field};
@@ -9,23 +9,6 @@ pub fn byte_at(bytes: &[u8], at: usize) -> u8
     ensures { λ r. ⌜ r ≡ byte at (now (bytes .entry)) ⌝ }
 {
     if at < bytes.len() { bytes[at] } else { 0 }
-}
-
-// The number in n bytes: one loop for every width.
-fn number_at(bytes: &[u8], at: usize, n: usize) -> u64
-    requires { ⌜ n ≤ 8 ⌝ }
-    ensures { λ r. ⌜ (r ≡ field at n (now (bytes .entry))) × (r < 256 ^ n) ⌝ }
-{
-    if bytes.len() <= at {
-        return 0;
-    }
-    let mut v: u64 = 0;
-    let mut i: usize = 0;
-    while i < n {
-        v = v * 256 + byte_at(bytes, at + i) as u64;
-        i += 1;
-    }
-    v
 }
 
 // Whether n bytes stand at a place: then one test does for all of them.
@@ -63,22 +46,28 @@ pub(crate) fn four_in(bytes: &[u8], at: usize) -> u32
     a * 65536 + b
 }
 
+// In four parts: of these a compiler makes one load.
 fn eight_in(bytes: &[u8], at: usize) -> u64
     requires { ⌜ at + 8 ≤ length (now bytes) ⌝ }
     ensures { λ r. ⌜ r ≡ field at 8 (now (bytes .entry)) ⌝ }
 {
-    let a = four_in(bytes, at) as u64;
-    let b = four_in(bytes, at + 4) as u64;
-    a * 4294967296 + b
+    let a = two_in(bytes, at) as u64;
+    let b = two_in(bytes, at + 2) as u64;
+    let c = two_in(bytes, at + 4) as u64;
+    let d = two_in(bytes, at + 6) as u64;
+    a * 281474976710656 + b * 4294967296 + c * 65536 + d
 }
 
+// Past the end, half by half.
 pub fn u16_at(bytes: &[u8], at: usize) -> u16
     ensures { λ r. ⌜ r ≡ field at 2 (now (bytes .entry)) ⌝ }
 {
-    if has_room(bytes, at, 2) {
-        return two_in(bytes, at);
+    if bytes.len() <= at {
+        return 0;
     }
-    number_at(bytes, at, 2) as u16
+    let a = byte_at(bytes, at) as u16;
+    let b = byte_at(bytes, at + 1) as u16;
+    a * 256 + b
 }
 
 pub fn u32_at(bytes: &[u8], at: usize) -> u32
@@ -87,7 +76,12 @@ pub fn u32_at(bytes: &[u8], at: usize) -> u32
     if has_room(bytes, at, 4) {
         return four_in(bytes, at);
     }
-    number_at(bytes, at, 4) as u32
+    if bytes.len() <= at {
+        return 0;
+    }
+    let a = u16_at(bytes, at) as u32;
+    let b = u16_at(bytes, at + 2) as u32;
+    a * 65536 + b
 }
 
 pub fn u64_at(bytes: &[u8], at: usize) -> u64
@@ -96,5 +90,10 @@ pub fn u64_at(bytes: &[u8], at: usize) -> u64
     if has_room(bytes, at, 8) {
         return eight_in(bytes, at);
     }
-    number_at(bytes, at, 8)
+    if bytes.len() <= at {
+        return 0;
+    }
+    let a = u32_at(bytes, at) as u64;
+    let b = u32_at(bytes, at + 4) as u64;
+    a * 4294967296 + b
 }

@@ -49,18 +49,30 @@ fn cap(status: u8) -> u16
     if status == 0 { 65535 } else { 0 }
 }
 
-// The caps of n clients, whose statuses stand from a place on.
+// The cap at a place of the clients', whose statuses stand from `at` on; 0 past the last.
+fn cap_at(input: &[u8], n: usize, at: usize, client: usize) -> u16
+    requires { ⌜ at + n ≤ length (now input) ⌝ }
+    ensures { λ r. ⌜ r ≡ cap-of (bytes-at n at (now (input .entry))) client ⌝ }
+{
+    if client < n {
+        cap(input[at + client])
+    } else {
+        0
+    }
+}
+
+// The caps of n clients.
 pub(crate) fn caps(input: &[u8], n: usize, at: usize) -> [u16; 6]
-    requires { ⌜ (n ≤ 6) × (at + n ≤ length (now input)) ⌝ }
+    requires { ⌜ at + n ≤ length (now input) ⌝ }
     ensures { λ r. ⌜ r ≡ tabulate 6 (cap-of (bytes-at n at (now (input .entry)))) ⌝ }
 {
-    let mut caps = [0u16; 6];
-    let mut i: usize = 0;
-    while i < n {
-        caps[i] = cap(input[at + i]);
-        i = i + 1;
-    }
-    caps
+    let first = cap_at(input, n, at, 0);
+    let second = cap_at(input, n, at, 1);
+    let third = cap_at(input, n, at, 2);
+    let fourth = cap_at(input, n, at, 3);
+    let fifth = cap_at(input, n, at, 4);
+    let sixth = cap_at(input, n, at, 5);
+    [first, second, third, fourth, fifth, sixth]
 }
 
 // The clients of m bids.

@@ -1,25 +1,21 @@
-// Question 4's limit of eight bids for a client: one pass counts the bids of each.
+// Question 4's limit of eight bids for a client: one pass counts the bids of each, and a second ends with the first that has more.
 ghost use mathlib.Core.Path.{_≡_};
 ghost use mathlib.Core.List.{List};
-ghost use Prim.Native.Nat.{ℕ, _≤_};
-ghost use lib.ListN.{getD};
+ghost use Prim.Native.Nat.{ℕ, _*_, _/_, _%_, _^_, _≤_};
 ghost use Rattle.book.specs.Lists.{all-to};
 ghost use Rattle.book.specs.Questions.{few-bids};
 ghost use Rattle.book.specs.Room.{bids-held, named, Named};
 
-// How many of m bids each client has, by its number.
-fn counts_by_client(m: usize, client: &[u8; 48]) -> [usize; 7]
+// How many of m bids each client has, in one number: eight bits for each client, by its number.
+fn counts_by_client(m: usize, client: &[u8; 48]) -> u64
     requires { ⌜ Named m (now client) ⌝ }
-    ensures { λ r. ⌜ ((c : ℕ) → c ≤ 6 → getD r c 0 ≡ named c m (now (client .entry))) ⌝ }
+    ensures { λ r. ⌜ ((c : ℕ) → r / 2 ^ (8 * c) % 256 ≡ named c m (now (client .entry))) ⌝ }
 {
-    let mut counts = [0usize; 7];
+    let mut counts: u64 = 0;
     let mut i: usize = 0;
-    let mut left = m;
-    while 0 < left {
-        let who = client[i] as usize;
-        counts[who] = counts[who] + 1;
+    while i < m {
+        counts = counts + (1 << (8 * client[i]));
         i = i + 1;
-        left = left - 1;
     }
     counts
 }
@@ -31,11 +27,12 @@ pub(crate) fn few_for_each(n: usize, m: usize, client: &[u8; 48]) -> bool
     ensures { λ r. ⌜ ((k : ℕ) (hs xs : List ℕ) → r ≡ all-to n (few-bids (bids-held k m (now (client .entry)) hs xs))) ⌝ }
 {
     let counts = counts_by_client(m, client);
-    let mut ok = true;
     let mut who: usize = 0;
     while who < n {
         who = who + 1;
-        ok = numbers::both(ok, counts[who] <= 8);
+        if 8 < (counts >> (8 * who)) % 256 {
+            return false;
+        }
     }
-    ok
+    true
 }

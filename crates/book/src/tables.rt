@@ -1,5 +1,5 @@
 // Question 3: of the supplies and reserves in a book's arrays, and of the statuses in its bytes, since a cap cannot hold a status of 2.
-// Both loops count what is left down.
+// Both loops count what is left down, and end with the first no.
 ghost use mathlib.Core.Path.{_≡_};
 ghost use Prim.Native.Nat.{_+_, _≤_};
 ghost use lib.ListN.{length};
@@ -13,16 +13,16 @@ pub(crate) fn kinds_good(k: usize, supply: [u8; 4], reserve: [u16; 4]) -> bool
     requires { ⌜ k ≤ 4 ⌝ }
     ensures { λ r. ⌜ r ≡ all kind-good (kinds-held k supply reserve) ⌝ }
 {
-    let mut ok = true;
     let mut i: usize = 0;
     let mut left = k;
     while 0 < left {
-        let good = numbers::both(supply[i] <= 200, reserve[i] <= 10000);
-        ok = numbers::both(ok, good);
+        if !numbers::both(supply[i] <= 200, reserve[i] <= 10000) {
+            return false;
+        }
         i = i + 1;
         left = left - 1;
     }
-    ok
+    true
 }
 
 // Whether each of n statuses from a place on is 0 or 1.
@@ -30,13 +30,14 @@ pub(crate) fn statuses_good(input: &[u8], n: usize, at: usize) -> bool
     requires { ⌜ at + n ≤ length (now input) ⌝ }
     ensures { λ r. ⌜ r ≡ all status-good (bytes-at n at (now (input .entry))) ⌝ }
 {
-    let mut ok = true;
     let mut place = at;
     let mut left = n;
     while 0 < left {
-        ok = numbers::both(ok, input[place] <= 1);
+        if 1 < input[place] {
+            return false;
+        }
         place = place + 1;
         left = left - 1;
     }
-    ok
+    true
 }

@@ -1,5 +1,5 @@
 -- A book that was read from an input, with the bytes that follow it, is the call of the input. Cited by the proof of `judge_sheet`, and by
--- crates above that read an input once more. Assumes nothing.
+-- crates above that read an input themselves. Assumes nothing.
 use mathlib.Core.Path.{_≡_, sym, ap, _∙_}
 use mathlib.Core.List.{List}
 use Prim.Native.Nat.{ℕ, _-_, _≤_}

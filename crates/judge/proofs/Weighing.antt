@@ -1,5 +1,5 @@
 -- Questions 7 to 9 of a sheet that arrays hold, by what the test of ranges and the weighing of the winners answer. Cited by the proof of
--- src/chain.rt's `number_of`. Assumes nothing.
+-- src/chain.rt's `answer_over`. Assumes nothing.
 use mathlib.Core.Path.{_≡_, ap, _∙_}
 use mathlib.Core.Bool.{true, cond}
 use mathlib.Core.List.{List}

@@ -1,14 +1,15 @@
 -- Arrays with an entry for each of w winners, of whom six count, against the definitions. Cited by the proofs of `reserves_of` and
 -- `prices_of`. Assumes nothing.
 use mathlib.Core.Path.{_≡_, sym, ap, _∙_}
+use mathlib.Core.Bool.{cond}
 use mathlib.Core.List.{List}
-use Prim.Native.Nat.{ℕ, _*_, _-_, _≤_, _<_, min}
+use Prim.Native.Nat.{ℕ, _*_, _-_, min}
 use native.Mathlib.Decide.{decLt}
 use native.Mathlib.Omega.{arith}
+use lib.Dec.{ltb}
 use lib.ListN.{length, getD, take, length-take}
 use lib.Seq.{getD-take}
-use Rattle.sets.specs.Tables.{tabulate}
-use Rattle.sets.proofs.Tables.{filled-table}
+use borrow.Author.Tests.{lt-ltb, le-ltb}
 use Rattle.sets.proofs.Filled.{Filled}
 use Rattle.book.specs.Book.{Book, bid-at, reserves-of}
 use Rattle.winners.specs.Combinations.{amount-of}
@@ -33,16 +34,12 @@ module _ (b : Book) (bids : List ℕ) (w : ℕ) (long : length bids ≡ 6) (xs :
         | no l ↦ f .above j (omega arith) ∙ sym (rho-past b (take w bids) j (omega (arith, length-take w bids)))
       ]
 
-module _ (b : Book) (bids : List ℕ) (f : Figures) where
-  -- what winner k pays, for the amount that was looked up
-  pub price-due : (k a v : ℕ) → k < f .w → v ≡ f .q * a - at (f .x) k → a ≡ amount-of b (at bids k)
-      → v ≡ f .q * win b (take (f .w) bids) k - at (f .x) k
-  unfolding win
-  price-due k a v l e p =
-      e ∙ ap (λ (z : ℕ). f .q * z - at (f .x) k) (p ∙ ap (amount-of b) (sym (getD-take (f .w) bids k 0 l)))
-
-  -- what the winners pay
-  pub prices-filled : (i : ℕ) (xs : List ℕ) → i ≡ f .w → f .w ≤ 6
-      → Filled 6 (λ k. f .q * win b (take (f .w) bids) k - at (f .x) k) i xs → xs ≡ tabulate 6 (price b (sheet-held bids f))
-  unfolding price
-  prices-filled i xs e few h = filled-table 6 (λ k. f .q * win b (take (f .w) bids) k - at (f .x) k) (f .w) i xs (omega arith) h
+-- what winner k pays, for the bid at place k
+pub price-due : (b : Book) (bids : List ℕ) (f : Figures) (k v : ℕ)
+    → v ≡ cond (ltb k (f .w)) (f .q * amount-of b (at bids k) - at (f .x) k) 0 → v ≡ price b (sheet-held bids f) k
+unfolding price win
+price-due b bids f k v e =
+    e ∙ elim (decLt k (f .w)) [
+      | yes l ↦ rw (lt-ltb k (f .w) l) (ap (λ (i : ℕ). f .q * amount-of b i - at (f .x) k) (sym (getD-take (f .w) bids k 0 l)))
+      | no l ↦ rw (le-ltb k (f .w) (omega arith))
+    ]

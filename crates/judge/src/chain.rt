@@ -10,7 +10,6 @@ ghost use mathlib.Core.Path.{_≡_};
 ghost use Rattle.book.specs.Value.{book-of, sound-number};
 ghost use Rattle.demands.specs.Answer.{answer-of};
 ghost use Rattle.demands.specs.Call.{call-of};
-ghost use Rattle.demands.specs.Questions.{judged};
 ghost use Rattle.judge.specs.Chain.{Weighed-sheet, certificate-judged};
 ghost use Rattle.judge.specs.Judgement.{answer-in};
 ghost use Rattle.judge.specs.Reading.{sheet-held};
@@ -30,24 +29,7 @@ fn certificate_number(book: Book, bids: [u8; 6], figures: Figures, sigma: [u64; 
     certificate::balances(figures, sigma, rho)
 }
 
-// Questions 7 to 15, for what was read of a sheet.
-fn number_of(book: Book, bids: [u8; 6], figures: Figures) -> u8
-    requires { ⌜ sound-number book ≡ 0 ⌝ }
-    ensures { λ r. ⌜ r ≡ judged (book-of book) (sheet-held bids figures) ⌝ }
-{
-    let seven = ranges::ranges(figures);
-    if 0 < seven {
-        return seven;
-    }
-    let weighed = winners::weigh(book, bids, figures.w as usize);
-    if 0 < weighed.number {
-        return weighed.number as u8;
-    }
-    let sigma = weighed.sigma;
-    certificate_number(book, bids, figures, sigma)
-}
-
-// Questions 6 to 15, and the answer.
+// Questions 6 to 15, and the answer: in one function, since a book and figures that are handed on are copied.
 pub(crate) fn answer_over(book: Book, part: &[u8]) -> Prices
     requires { ⌜ sound-number book ≡ 0 ⌝ }
     ensures { λ r. ⌜ answer-in r ≡ answer-of (call-of book (now (part .entry))) ⌝ }
@@ -58,7 +40,16 @@ pub(crate) fn answer_over(book: Book, part: &[u8]) -> Prices
     }
     let bids = sheet.bids;
     let figures = sheet.figures;
-    let later = number_of(book, bids, figures);
+    let seven = ranges::ranges(figures);
+    if 0 < seven {
+        return prices::refused(seven);
+    }
+    let weighed = winners::weigh(book, bids, figures.w as usize);
+    if 0 < weighed.number {
+        return prices::refused(weighed.number as u8);
+    }
+    let sigma = weighed.sigma;
+    let later = certificate_number(book, bids, figures, sigma);
     if 0 < later {
         return prices::refused(later);
     }

@@ -2,10 +2,12 @@
 use book::Book;
 use certificate::ranges::Figures;
 ghost use mathlib.Core.Path.{_≡_};
-ghost use Prim.Native.Nat.{ℕ};
+ghost use mathlib.Core.Bool.{cond};
+ghost use Prim.Native.Nat.{ℕ, _*_, _-_, _≤_};
 ghost use lib.ListN.{getD, take};
 ghost use Rattle.book.specs.Value.{book-of};
 ghost use Rattle.sets.specs.Tables.{tabulate};
+ghost use Rattle.winners.specs.Combinations.{amount-of};
 ghost use Rattle.demands.specs.Winners.{rho};
 ghost use Rattle.certificate.specs.Figures.{certificate};
 ghost use Rattle.certificate.specs.InRange.{Ranges};
@@ -46,8 +48,20 @@ pub(crate) fn refused(number: u8) -> Prices
         number: number as u32,
         w: 0,
         q: 0,
-        prices: [0; 6],
+        prices: [0, 0, 0, 0, 0, 0],
     }
+}
+
+// What the winner with that bid pays over q; 0 where there is no such winner.
+fn price_of(book: Book, bid: u8, there: bool, q: u64, x: u64) -> u64
+    requires { ⌜ q ≤ 10000 ⌝ }
+    ensures { λ r. ⌜ r ≡ cond there (q * amount-of (book-of book) bid - x) 0 ⌝ }
+{
+    if !there {
+        return 0;
+    }
+    let amount = book::amount_of(book, bid as usize) as u64;
+    numbers::excess(q * amount, x)
 }
 
 // What each winner pays over q, 0 past the last.
@@ -55,17 +69,16 @@ fn prices_of(book: Book, bids: [u8; 6], figures: Figures) -> [u64; 6]
     requires { ⌜ Ranges (certificate figures) ⌝ }
     ensures { λ r. ⌜ r ≡ tabulate 6 (price (book-of book) (sheet-held bids figures)) ⌝ }
 {
-    let w = figures.w as usize;
+    let w = figures.w;
     let q = figures.q;
     let x = figures.x;
-    let mut prices = [0u64; 6];
-    let mut k: usize = 0;
-    while k < w {
-        let amount = book::amount_of(book, bids[k] as usize) as u64;
-        prices[k] = numbers::excess(q * amount, x[k]);
-        k += 1;
-    }
-    prices
+    let first = price_of(book, bids[0], 0 < w, q, x[0]);
+    let second = price_of(book, bids[1], 1 < w, q, x[1]);
+    let third = price_of(book, bids[2], 2 < w, q, x[2]);
+    let fourth = price_of(book, bids[3], 3 < w, q, x[3]);
+    let fifth = price_of(book, bids[4], 4 < w, q, x[4]);
+    let sixth = price_of(book, bids[5], 5 < w, q, x[5]);
+    [first, second, third, fourth, fifth, sixth]
 }
 
 // An acceptance has w, q, number 0 and the prices.

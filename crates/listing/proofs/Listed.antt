@@ -18,7 +18,6 @@ use Rattle.demands.specs.Sheet.{sheet-in}
 use Rattle.demands.specs.Call.{Call, call-in, sheet, call-refusal, input-refusal, Accepted}
 use Rattle.demands.specs.Answer.{Answer, answer-of}
 use Rattle.demands.proofs.Judgeable.{Judgeable, input-judgeable}
-use Rattle.demands.proofs.Passed.{accepted-passed}
 use Rattle.demands.proofs.Answer.{answered}
 use Rattle.judge.proofs.Readings.{read-call}
 use Rattle.text.specs.declared.Text.{Text}
@@ -75,15 +74,14 @@ module _ (bs : List ℕ) (r : Answer) (e : r ≡ answer-of (call-in bs)) where
     of-winners x = winner-lines (call-in bs .book) (sheet (call-in bs) .bids) (x .w) (x .prices)
 
     -- they were pushed for what was read of the input
-    pub accepted-listed : (b : Reading) (bids : List ℕ) → Reading-is bs b
+    pub accepted-listed : (b : Reading) (bids : List ℕ) → Reading-is bs b → b .number ≤ 0
         → bids ≡ tabulate 6 (at (sheet-in (take (length bs - b .length) (drop (b .length) bs)) .bids))
         → (first t : Text) → first ≡ pushes blank (line accepted-word (r .w ∷ r .q ∷ []))
         → t ≡ pushes first (winner-lines (book-of (b .book)) bids (r .w) (r .prices)) → Listed bs t
     unfolding accepted-text
-    accepted-listed b bids read six first t f p =
+    accepted-listed b bids read z six first t f p =
         let c = call-in bs in
-        let unrefused : b .number ≤ 0 = omega (arith, read .numbered, accepted-passed c is-accepted .sound) in
-        let call = read-call bs b read unrefused in
+        let call = read-call bs b read z in
         let lines : winner-lines (book-of (b .book)) bids (r .w) (r .prices) ≡ of-winners r =
         ap (λ (is : List ℕ). winner-lines (book-of (b .book)) is (r .w) (r .prices)) six
         ∙ winners-alike (book-of (b .book)) _ (r .w) (r .prices) winners-few

@@ -76,19 +76,22 @@ fn push_winners(book: Book, bids: [u8; 6], t: Text, w: usize, prices: [u64; 6]) 
     out
 }
 
-// The printed text of any input. The book is read once more where there are winners to print.
+// The printed text of any input. Its book is read once, and the sheet is judged over the value.
 pub fn price_list(input: &[u8]) -> Text
     ensures { λ r. ⌜ Listed (now (input .entry)) r ⌝ }
 {
-    let answer = judge::judge_sheet(input);
+    let reading = book::read(input);
+    if 0 < reading.number {
+        return refused(reading.number as u64);
+    }
+    let from = reading.length as usize;
+    let book = reading.book;
+    let answer = judge::judge_over(book, &input[from..]);
     let prices = answer.prices;
     if 0 < answer.number {
         return refused(answer.number as u64);
     }
     let first = first_line(answer.w as u64, answer.q as u64);
-    let reading = book::read(input);
-    let from = reading.length as usize;
-    let book = reading.book;
     let bids = sheet::bids_of(&input[from..]);
     push_winners(book, bids, first, answer.w as usize, prices)
 }

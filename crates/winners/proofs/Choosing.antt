@@ -1,9 +1,8 @@
 -- The step of the test of a list of bids: one bid more follows or it does not; the sum of amounts and the list of clients for one bid
 -- more. Cited by the proofs of src/choice.rt. Assumes nothing.
-use mathlib.Core.Path.{_≡_, sym, ap, _∙_}
-use mathlib.Core.Bool.{Bool, true, false, _&&_, and-assoc, and-false, and-true, and-eq-true-iff}
+use mathlib.Core.Path.{_≡_, sym, _∙_}
+use mathlib.Core.Bool.{Bool, true, false, _&&_, and-assoc, and-eq-true-iff}
 use mathlib.Core.List.{List, [], _∷_}
-use mathlib.Core.Logic.{⊎-elim}
 use Prim.Native.Nat.{ℕ, _+_, _≤_}
 use native.Mathlib.Nat.{add-assoc, add-zero}
 use borrow.Author.Tests.{leb-true}
@@ -13,7 +12,6 @@ use Rattle.book.specs.Book.{Book, bid-at, client-of, clients, standing}
 use Rattle.market.specs.Market.{at, fits, less}
 use Rattle.market.specs.Combination.{rising-from}
 use Rattle.market.specs.Combination.{worth}
-use Rattle.market.proofs.Bools.{either}
 use Rattle.winners.specs.Combinations.{market}
 use Rattle.winners.specs.Following.{follows}
 
@@ -37,16 +35,14 @@ module _ (b : Book) (c : ℕ) (ls : List ℕ) (i : ℕ) (is : List ℕ) where
       let r = and-eq-true-iff (leb 1 i) (leb i (length (b .bids))) .0 (q .0) in
       (leb-true 1 i (r .0), leb-true i _ (r .1))
 
-  pub choice-next : (ok t now z : Bool) (owner : ℕ) (ls′ : List ℕ) → now ≡ (ok && t) → t ≡ follows b c ls i
-      → (ok && rising-from (market b) (clients b) c ls (i ∷ is)) ≡ z → (t ≡ true → owner ≡ client-of b i)
-      → (t ≡ true → ls′ ≡ less ls (bid-at b i .hours)) → (now && rising-from (market b) (clients b) owner ls′ is) ≡ z
-  choice-next ok t now z owner ls′ n e q o h =
-      let rest = rising-from (market b) (clients b) (client-of b i) (less ls (bid-at b i .hours)) is in
-      let whole : (ok && (t && rest)) ≡ z = rw e (ap (λ (x : Bool). ok && x) (sym follows-first) ∙ q) in
-      ⊎-elim
-      (λ (y : t ≡ true). rw (n, o y, h y) (and-assoc ok t rest ∙ whole))
-      (λ (y : t ≡ false). rw (n, y, and-false ok) (sym (and-false ok) ∙ (rw y at whole)))
-      (either t)
+  -- after a bid that may follow, what the rest makes stays what the whole makes; one that may not is the answer
+  pub choice-kept : (z : Bool) (owner : ℕ) (ls′ : List ℕ) → follows b c ls i ≡ true → owner ≡ client-of b i
+      → ls′ ≡ less ls (bid-at b i .hours) → rising-from (market b) (clients b) c ls (i ∷ is) ≡ z
+      → rising-from (market b) (clients b) owner ls′ is ≡ z
+  choice-kept z owner ls′ t o h q = rw (o, h) (rw t at (sym follows-first ∙ q))
+
+  pub choice-ended : (z : Bool) → follows b c ls i ≡ false → rising-from (market b) (clients b) c ls (i ∷ is) ≡ z → false ≡ z
+  choice-ended z t q = rw t at (sym follows-first ∙ q)
 
 -- amounts of the bids left
 pub worth-next : (wt : ℕ → ℕ) (x : ℕ) (xs ys : List ℕ) (s t z : ℕ) → xs ≡ x ∷ ys → t ≡ wt x → s + worth wt xs ≡ z
@@ -58,7 +54,6 @@ pub worth-done : (wt : ℕ → ℕ) (xs : List ℕ) (s z : ℕ) → xs ≡ [] �
 unfolding worth
 worth-done wt xs s z e q = sym (add-zero s) ∙ (rw e at q)
 
-pub choice-done : (b : Book) (c : ℕ) (ls xs : List ℕ) (ok z : Bool) → xs ≡ [] → (ok && rising-from (market b) (clients b) c ls xs) ≡ z
-    → ok ≡ z
+pub choice-done : (b : Book) (c : ℕ) (ls xs : List ℕ) (z : Bool) → xs ≡ [] → rising-from (market b) (clients b) c ls xs ≡ z → true ≡ z
 unfolding rising-from
-choice-done b c ls xs ok z e q = sym (and-true ok) ∙ (rw e at q)
+choice-done b c ls xs z e q = rw e at q

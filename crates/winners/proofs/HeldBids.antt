@@ -10,12 +10,13 @@ use native.Mathlib.Omega.{arith}
 use lib.Bits.{bitAnd}
 use lib.Dec.{eqb}
 use lib.ListN.{length, getD, take, List·getD-eq-default}
+use lib.Seq.{ext-getD, getD-take, length-take-le}
 use Rattle.book.specs.Lists.{row}
 use Rattle.book.specs.Book.{Book, Bid, bid-at, client-of, clients, supplies}
 use Rattle.book.specs.Value.{bid-held, book-of, sound-number}
 use Rattle.book.specs.declared.value.Book.{Book as Arrays}
 use Rattle.book.proofs.RowLaws.{row-length, row-at, row-past}
-use Rattle.book.proofs.Held.{held-kinds, held-clients, held-bids, held-bid, counts-held, sound-held}
+use Rattle.book.proofs.Held.{held-kinds, held-clients, held-bids, held-bid, held-supply, counts-held, sound-held}
 use Rattle.market.specs.Market.{fits}
 use Rattle.winners.specs.Combinations.{market, amount-of}
 use Rattle.winners.specs.ByKind.{by-kind}
@@ -86,6 +87,14 @@ module _ (v : Arrays) (h : sound-number v ≡ 0) where
 
   pub bids-are : length (book-of v .bids) ≡ v .m
   bids-are = held-bids v ∙ min-eq-left (counts-held v h .m-high)
+
+  -- the supply, as the array has it
+  pub supply-held : length (v .supply) ≡ 4 → take (v .k) (v .supply) ≡ supplies (book-of v)
+  supply-held long =
+      let few = counts-held v h .K-high in
+      let own = length-take-le (v .k) (v .supply) (omega (arith, few)) in
+      ext-getD 0 _ _ (own ∙ sym (supplies-count (book-of v) ∙ kinds-are))
+      (λ j l. getD-take (v .k) (v .supply) j 0 (omega (arith, own)) ∙ sym (held-supply v j (omega (arith, own, few))))
 
   module _ (i : ℕ) (l : i < v .m) where
     bid-is : bid-at (book-of v) (i + 1) ≡ bid-held (v .k) (v .client) (v .hours) (v .amount) i

@@ -50,7 +50,7 @@ fn may_follow(named: bool, last: usize, owner: usize, n: usize, stands: bool, fi
     numbers::both(numbers::both(named, taken), fit)
 }
 
-// The arrays are lent and not copied: there are up to six bids to look up.
+// Each bid may follow the one before it. The loop ends with the first that may not. The arrays are lent and not copied.
 fn all_follow(book: Book, bids: [u8; 6], count: usize) -> bool
     requires { ⌜ sound-number book ≡ 0 ⌝ }
     requires { ⌜ count ≤ 6 ⌝ }
@@ -59,9 +59,8 @@ fn all_follow(book: Book, bids: [u8; 6], count: usize) -> bool
     let n = book.n as usize;
     let m = book.m as usize;
     let caps = book.caps;
-    let mut ok = true;
     let mut last: usize = 0;
-    let mut left = book::supply_of(book);
+    let mut left = book.supply;
     let mut i: usize = 0;
     while i < count {
         let number = bids[i] as usize;
@@ -70,14 +69,15 @@ fn all_follow(book: Book, bids: [u8; 6], count: usize) -> bool
         let asked = hours::at_place(&book.hours, at);
         let named = numbers::both(1 <= number, number <= m);
         let fit = hours::fit(book.k as usize, asked, left);
-        let next = may_follow(named, last, owner, n, stands(n, caps, owner), fit);
-        ok = numbers::both(ok, next);
+        if !may_follow(named, last, owner, n, stands(n, caps, owner), fit) {
+            return false;
+        }
         last = owner;
         let rest = hours::rest(asked, left);
         left = rest;
         i += 1;
     }
-    ok
+    true
 }
 
 // At most six bids, and question 8.

@@ -1,37 +1,50 @@
--- `limit::few_for_each` meets its contract. The loop keeps the answer for the clients passed. Assumes nothing.
+-- `limit::few_for_each` meets its contract. The loop goes on while no client passed has too many bids. Assumes nothing.
 use borrow.Author.Needs.{needs}
-use mathlib.Core.Path.{_≡_, refl, _∙_}
+use mathlib.Core.Path.{_≡_, refl, sym, _∙_}
+use mathlib.Core.Bool.{true}
 use Prim.Native.Nat.{_+_, _-_, _≤_}
 use native.Mathlib.Nat.{le-antisymm}
 use Rattle.book.specs.Lists.{all-to}
-use Rattle.book.proofs.Tally.{few-named, all-to-next, few-count, few-for-bids}
+use Rattle.book.proofs.Tally.{few-named, few-under, few-over, few-next, one-over, few-for-bids}
 use Rattle.book.proofs.limit.few_for_each.Statement.{statement}
 use Rattle.book.proofs.limit.few_for_each.Tie as tie
 
 abbrev Inv-loop : tie.InvT-loop
-Inv-loop n m client counts ok₀ who₀ ok who = (who ≤ n) × (ok ≡ all-to who (few-named m client))
+Inv-loop n m client counts who₀ who = (who ≤ n) × (all-to who (few-named m client) ≡ true)
 
 abbrev μ-loop : tie.MeasureT-loop
-μ-loop n m client counts ok₀ who₀ ok who = n - who
+μ-loop n m client counts who₀ who = n - who
 
 loop-holds : tie.Need-loop-holds Inv-loop μ-loop
 unfolding all-to
 loop-holds c = (search needs, refl)
 
-loop-again : tie.Need-loop-again Inv-loop μ-loop
-loop-again c =
-    let loop = c .before .before .loop in
-    let counts = c .before .before .before .counts-by-client .ensures in (
-      search needs,
-      all-to-next (few-named _ _) _ (loop .ok) _ _ (c .both .ensures) (few-count _ _ _ _ (counts (loop .who + 1) (search needs)))
-          (loop .inv .1),
-    )
-
 returns : tie.Need-returns Inv-loop μ-loop
 returns c k hs xs =
+    let inside = c .before in
+    let who = inside .before .loop .who + 1 in
+    let start = inside .before .before .before in
+    let m = start .args .m in
+    let clients = start .args .client .now in
+    let over = few-over m clients who _ (inside .before .before .counts-by-client .ensures who) (c .if1 .taken) in
+    sym (one-over (few-named m clients) (start .args .n) who (search needs) (search needs) over) ∙ few-for-bids clients k hs xs _ m
+
+loop-again : tie.Need-loop-again Inv-loop μ-loop
+loop-again c =
+    let inside = c .before in
+    let loop = inside .before .loop in
+    let who = loop .who + 1 in (
+      search needs,
+      few-next (few-named _ _) (loop .who) (loop .inv .1)
+          (few-under _ _ who _ (inside .before .before .counts-by-client .ensures who) (c .if1 .left)),
+    )
+
+returns-2 : tie.Need-returns-2 Inv-loop μ-loop
+returns-2 c k hs xs =
     let start = c .before .before .before in
-    rw (le-antisymm (c .loop-test .left) (c .before .loop .inv .0))
-    (c .before .loop .inv .1 ∙ few-for-bids (start .args .client .now) k hs xs _ (start .args .m))
+    let loop = c .before .loop in
+    sym (rw (le-antisymm (loop .inv .0) (c .loop-test .left)) at (loop .inv .1))
+    ∙ few-for-bids (start .args .client .now) k hs xs _ (start .args .m)
 
 pub few-for-each-spec : {M : Type 1} → statement M
 few-for-each-spec =
@@ -44,7 +57,7 @@ few-for-each-spec =
     (λ c. search needs)
     (λ c. search needs)
     (λ c. search needs)
-    (λ c κs. search needs)
+    returns
     (λ c. search needs)
     loop-again
-    returns)
+    returns-2)

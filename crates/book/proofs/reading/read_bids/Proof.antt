@@ -69,7 +69,7 @@ abbrev begin : tie.Else1 → tie.Start
 begin c = c .before .before .before .before .before .before .before .before .before
 
 caps-requires : tie.Need-caps-requires
-caps-requires c κs = (counted (begin c) .room .clients, counted (begin c) .statuses)
+caps-requires c κs = counted (begin c) .statuses
 
 cast-kinds : tie.Need-cast-kinds
 cast-kinds c = omega (arith, counted (begin (c .before)) .room .kinds)
