@@ -1,6 +1,6 @@
 /* Judges a call through the library and prints what the program prints, made from the answer's fields.
 
-       cc -std=c99 -Iinclude -o judge examples/judge.c target/staticlib/libexports.a
+       cc -std=c99 -Iinclude -o judge examples/judge.c target/staticlib/libgimletsorrel.a
        ./judge calls/spring.call */
 
 #include "gimletsorrel.h"
@@ -48,7 +48,7 @@ int main(int count, char **words)
     }
 
     struct gimletsorrel_prices answer = gimletsorrel_judge_sheet(call, len);
-    if (answer.number == 0)
+    if (answer.number == GIMLETSORREL_ACCEPTED)
         print_prices(call, &answer);
     else
         printf("refused %" PRIu32 "\n", answer.number);

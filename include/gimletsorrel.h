@@ -1,9 +1,9 @@
-/* The certifier for package-auction prices, for callers in C. docs/FORMAT.md has the layouts and the questions.
+/* The certifier for package-auction prices, for callers in C and C++. docs/FORMAT.md has the layouts and the questions.
 
-   The library is for x86-64 and the System V calling convention (Linux). `rt staticlib exports` proves it and writes it to
-   target/staticlib/libexports.a; link with
+   The library is for x86-64 and the System V calling convention (Linux). `bin/library` proves it and writes it, as libgimletsorrel.a and as
+   libgimletsorrel.so, to target/staticlib; link with
 
-       cc -Iinclude yours.c target/staticlib/libexports.a
+       cc -Iinclude yours.c target/staticlib/libgimletsorrel.a
 
    It needs memcpy and memset of the C library, and nothing else.
 
@@ -24,6 +24,33 @@
 extern "C" {
 #endif
 
+/* The version that these declarations are of; gimletsorrel_version() says which the library is. */
+#define GIMLETSORREL_VERSION_MAJOR 0
+#define GIMLETSORREL_VERSION_MINOR 1
+#define GIMLETSORREL_VERSION_PATCH 0
+#define GIMLETSORREL_VERSION (10000 * GIMLETSORREL_VERSION_MAJOR + 100 * GIMLETSORREL_VERSION_MINOR + GIMLETSORREL_VERSION_PATCH)
+
+/* What an answer's number says. Any but 0 is a refusal: the first of FORMAT's questions that is answered no. */
+enum gimletsorrel_number {
+    GIMLETSORREL_ACCEPTED = 0,              /* no question is answered no */
+    GIMLETSORREL_BOOK_VERSION = 1,          /* fewer than three bytes, or the first is not 1 */
+    GIMLETSORREL_BOOK_LENGTH = 2,           /* the book's length, or its numbers of kinds, clients or bids */
+    GIMLETSORREL_BOOK_TABLES = 3,           /* a supply, a reserve or a status out of range */
+    GIMLETSORREL_BOOK_BIDS = 4,             /* a bid's client, hours or amount; or nine bids of a client */
+    GIMLETSORREL_BOOK_RESERVES = 5,         /* an amount below the reserves of its hours */
+    GIMLETSORREL_SHEET_LENGTH = 6,          /* the sheet's version, length or number of winners */
+    GIMLETSORREL_SHEET_RANGES = 7,          /* a figure of the sheet out of range */
+    GIMLETSORREL_WINNERS_COMBINATION = 8,   /* the winners are no combination by rising client */
+    GIMLETSORREL_WINNERS_VALUE = 9,         /* another combination is worth more */
+    GIMLETSORREL_DISCOUNT_RESERVE = 10,     /* a discount takes its winner below the reserves */
+    GIMLETSORREL_DISCOUNT_SURPLUS = 11,     /* the discounts of a set exceed its surplus: others could complain */
+    GIMLETSORREL_MULTIPLIERS_COVER = 12,    /* a winner's Z and Y do not reach s */
+    GIMLETSORREL_MULTIPLIERS_TOTAL = 13,    /* what the multipliers vouch for is not the sum of the discounts */
+    GIMLETSORREL_MULTIPLIERS_DISTANCE = 14, /* a winner's distance is not what its multipliers make it */
+    GIMLETSORREL_MULTIPLIERS_SLACK = 15,    /* a multiplier that is not zero on a bound that is not reached */
+    GIMLETSORREL_DISCARD = 16               /* the discard byte names a client that is not there */
+};
+
 /* The greatest value of a book. */
 struct gimletsorrel_worth {
     uint32_t number; /* 0, or the number of the refusal: 1 to 5, or 16 */
@@ -32,7 +59,7 @@ struct gimletsorrel_worth {
 
 /* The greatest value of a book, and for each set of its clients how much less it is without them. After a refusal everything but the
    number is 0. */
-struct gimletsorrel_surpluses {
+struct gimletsorrel_sigma_table {
     uint32_t number;    /* 0, or the number of the refusal: 1 to 5 */
     uint64_t value;     /* the greatest value in credits */
     uint64_t sigma[64]; /* by the set's number, whose bit 0 is client 1; 0 for numbers that are no set of the book's clients */
@@ -52,11 +79,14 @@ struct gimletsorrel_text {
     size_t len;
 };
 
+/* The library's version as one number, 10000 x major + 100 x minor + patch: GIMLETSORREL_VERSION, where the two fit. */
+uint32_t gimletsorrel_version(void);
+
 /* The greatest value of a book with clients discarded: bit 0 of `discard` is client 1. What follows the book is not looked at. */
 struct gimletsorrel_worth gimletsorrel_greatest_value(const uint8_t *book, size_t len, uint8_t discard);
 
 /* The greatest value of a book, and what each set of its clients adds to it. What follows the book is not looked at. */
-struct gimletsorrel_surpluses gimletsorrel_surpluses(const uint8_t *book, size_t len);
+struct gimletsorrel_sigma_table gimletsorrel_surpluses(const uint8_t *book, size_t len);
 
 /* The answer to a call: a book, and the sheet from the byte after it to the end. */
 struct gimletsorrel_prices gimletsorrel_judge_sheet(const uint8_t *input, size_t len);

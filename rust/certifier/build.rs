@@ -1,4 +1,4 @@
-//! Links the proved library, which `rt staticlib exports` writes to target/staticlib.
+//! Links the proved library, which the command bin/library writes to target/staticlib.
 
 use std::env;
 use std::path::{Path, PathBuf};
@@ -10,7 +10,7 @@ fn placed(archive: &Path) -> PathBuf {
     let folder = PathBuf::from(env::var_os("OUT_DIR").expect("cargo gives OUT_DIR"));
     let copied = Command::new("objcopy")
         .args(["--set-section-alignment", ".text*=64"])
-        .args([archive, &folder.join("libexports.a")])
+        .args([archive, &folder.join("libgimletsorrel.a")])
         .status();
     match copied {
         Ok(status) if status.success() => folder,
@@ -20,8 +20,12 @@ fn placed(archive: &Path) -> PathBuf {
 
 fn main() {
     let root = Path::new(env!("CARGO_MANIFEST_DIR")).join("../..");
-    let archive = root.join("target/staticlib/libexports.a");
+    let archive = root.join("target/staticlib/libgimletsorrel.a");
     println!("cargo:rerun-if-changed={}", archive.display());
+    if !archive.exists() {
+        eprintln!("target/staticlib/libgimletsorrel.a is missing: the command bin/library proves the library and writes it");
+        std::process::exit(1);
+    }
     println!("cargo:rustc-link-search=native={}", placed(&archive).display());
-    println!("cargo:rustc-link-lib=static=exports");
+    println!("cargo:rustc-link-lib=static=gimletsorrel");
 }

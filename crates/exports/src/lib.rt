@@ -1,4 +1,4 @@
-// The library for callers in C and Rust: functions that return their answers by value and lend nothing.
+// The library for callers in C, C++, Rust and others: functions that return their answers by value and lend nothing.
 use judge::Prices;
 use text::Text;
 use winners::SigmaTable;
@@ -10,6 +10,8 @@ ghost use Rattle.judge.specs.Judgement.{Judgement};
 ghost use Rattle.listing.specs.Listing.{Listed};
 ghost use Rattle.winners.specs.Surpluses.{All-surpluses-are};
 ghost use Rattle.winners.specs.Worth.{Worth-is};
+ghost use Rattle.exports.specs.Version.{version-number};
+ghost use mathlib.Core.Path.{_≡_};
 
 // The greatest value of a book with clients discarded.
 #[no_mangle]
@@ -41,4 +43,19 @@ pub extern "C" fn gimletsorrel_price_list(input: &[u8]) -> Text
     ensures { λ r. ⌜ Listed (now (input .entry)) r ⌝ }
 {
     listing::price_list(input)
+}
+
+// The version that the file VERSION names: the gate holds the three numbers to it.
+const MAJOR: u32 = 0;
+
+const MINOR: u32 = 1;
+
+const PATCH: u32 = 0;
+
+// The version of the library as one number.
+#[no_mangle]
+pub extern "C" fn gimletsorrel_version() -> u32
+    ensures { λ r. ⌜ r ≡ version-number 0 1 0 ⌝ }
+{
+    10000 * MAJOR + 100 * MINOR + PATCH
 }

@@ -1,4 +1,4 @@
--- An input cut anywhere past the longest call has the same printed text. Cited by the program, which reads no more. Assumes nothing.
+-- An input cut anywhere past the longest call has the same printed text. Cited by the laws on what was read of an input. Assumes nothing.
 use mathlib.Core.Path.{_≡_, sym, ap, ap₂, _∙_}
 use mathlib.Core.Bool.{true, false}
 use mathlib.Core.List.{List, [], _∷_, _++_}
@@ -7,7 +7,7 @@ use Prim.Native.Nat.{ℕ, _≤_, _<_}
 use native.Mathlib.Nat.{le-trans, le-of-eq}
 use native.Mathlib.Omega.{arith}
 use lib.Dec.{eqb}
-use lib.ListN.{take}
+use lib.ListN.{length, take}
 use borrow.Author.Tests.{eqb-true, eqb-false}
 use Rattle.market.proofs.Bools.{either}
 use Rattle.book.specs.Book.{Book}
@@ -17,7 +17,9 @@ use Rattle.demands.specs.Answer.{Answer, answer-of}
 use Rattle.demands.specs.Inputs.{longest-call}
 use Rattle.demands.proofs.Cut.{sound-cut, sheet-cut, number-cut, answer-cut}
 use Rattle.demands.proofs.Passed.{accepted-passed}
-use Rattle.listing.specs.Listing.{accepted-word, line, winner-lines, accepted-text, refused-text, listing-of}
+use Rattle.text.specs.declared.Text.{Text}
+use Rattle.text.specs.Text.{holding}
+use Rattle.listing.specs.Listing.{accepted-word, line, winner-lines, accepted-text, refused-text, listing-of, Listed}
 use Rattle.listing.proofs.Listed.{listing-accepted, listing-refused}
 
 module _ (N : ℕ) (bs : List ℕ) (l : longest-call < N) where
@@ -44,3 +46,9 @@ module _ (N : ℕ) (bs : List ℕ) (l : longest-call < N) where
       ∙ ap refused-text (number-cut N bs l)
       ∙ sym (listing-refused (call-in bs) refused))
       (either (eqb (input-refusal bs) 0))
+
+  pub listed-cut : (t : Text) → Listed (take N bs) t → Listed bs t
+  listed-cut t h = record {
+    text = h .text ∙ ap holding listing-cut;
+    fits = le-trans (le-of-eq (sym (ap length listing-cut))) (h .fits);
+  }

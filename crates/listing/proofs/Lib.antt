@@ -3,7 +3,8 @@
 pub mod Pushing
 pub mod Limits
 pub mod Listed
--- Reading: inputs cut.
+-- Reading: inputs cut, and what was read of them.
 pub mod Cut
+pub mod Readings
 -- The definition at work.
 pub mod Example

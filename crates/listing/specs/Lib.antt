@@ -1,2 +1,3 @@
 -- The definitions that the contracts cite. Assumes nothing.
 pub mod Listing
+pub mod Readings

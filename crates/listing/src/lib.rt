@@ -1,7 +1,8 @@
 // What is printed of an input: its price list, or its refusal.
 //
 // What a client may cite: `price_list`, which takes any input and asks nothing, with its contract `Listed` (specs/Listing.antt): the text
-// byte by byte, and that it fits. A law in proofs/ says that an input cut past the longest call has the same text.
+// byte by byte, and that it fits; and `price_list_of`, which takes what a program has read of an input, with its contract `Listed-read`
+// (specs/Readings.antt). A law in proofs/ says that an input cut past the longest call has the same text.
 ghost use mathlib.Core.Path.{_≡_};
 ghost use mathlib.Core.List.{_∷_, []};
 ghost use Prim.Native.Nat.{_≤_};
@@ -9,9 +10,13 @@ ghost use Rattle.book.specs.Value.{book-of};
 ghost use Rattle.text.specs.Decimal.{decimal};
 ghost use Rattle.text.specs.Text.{blank, pushes};
 ghost use Rattle.listing.specs.Listing.{accepted-word, ending, line, winner-line, winner-lines, refused-text, Listed};
+ghost use Rattle.listing.specs.Readings.{Listed-read};
 use book::Book;
 use judge::sheet;
 use text::Text;
+
+// How much of an input is looked at: one byte more than the longest call has.
+pub const LOOKED_AT: usize = 1407;
 
 // The bytes of a word behind `t`.
 fn push_word(t: Text, word: &[u8]) -> Text
@@ -94,4 +99,12 @@ pub fn price_list(input: &[u8]) -> Text
     let first = first_line(answer.w as u64, answer.q as u64);
     let bids = sheet::bids_of(&input[from..]);
     push_winners(book, bids, first, answer.w as usize, prices)
+}
+
+// The printed text of every input that begins with the first `count` bytes of the array, and is longer only where the array is full.
+pub fn price_list_of(bytes: [u8; LOOKED_AT], count: usize) -> Text
+    ensures { λ r. ⌜ Listed-read bytes count r ⌝ }
+{
+    let n = numbers::smaller(count, LOOKED_AT);
+    price_list(&bytes[..n])
 }

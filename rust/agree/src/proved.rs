@@ -45,6 +45,7 @@ impl Printer for Program {
         let mut child = Command::new(&self.0)
             .stdin(Stdio::piped())
             .stdout(Stdio::piped())
+            .stderr(Stdio::null())
             .spawn()
             .unwrap_or_else(|error| panic!("{}: {error}", self.0));
         let mut stdin = child.stdin.take().expect("it is piped");

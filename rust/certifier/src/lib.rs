@@ -37,10 +37,17 @@ pub struct Text {
 }
 
 extern "C" {
+    fn gimletsorrel_version() -> u32;
     fn gimletsorrel_greatest_value(book: *const u8, len: usize, discard: u8) -> Worth;
     fn gimletsorrel_surpluses(book: *const u8, len: usize) -> SigmaTable;
     fn gimletsorrel_judge_sheet(input: *const u8, len: usize) -> Prices;
     fn gimletsorrel_price_list(input: *const u8, len: usize) -> Text;
+}
+
+/// The library's version as one number: 10000 × major + 100 × minor + patch.
+pub fn version() -> u32 {
+    // SAFETY: the call takes nothing and reads nothing.
+    unsafe { gimletsorrel_version() }
 }
 
 /// The greatest value with clients discarded; bit 0 of the discard byte is client 1. Any bytes will do.

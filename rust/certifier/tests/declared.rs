@@ -3,6 +3,14 @@
 use certifier::{Prices, Text, Worth};
 use std::mem::{offset_of, size_of};
 
+/// The library's version is this crate's own.
+#[test]
+fn version() {
+    let parts = env!("CARGO_PKG_VERSION").split('.').map(|part| part.parse::<u32>().expect("a number"));
+    let number = parts.zip([10000, 100, 1]).map(|(part, times)| part * times).sum::<u32>();
+    assert_eq!(certifier::version(), number);
+}
+
 #[test]
 fn sizes_and_places() {
     assert_eq!(size_of::<Worth>(), 8);

@@ -120,6 +120,7 @@ fn the_source_exports_what_is_declared() {
         "gimletsorrel_surpluses(book: &[u8]) -> SigmaTable",
         "gimletsorrel_judge_sheet(input: &[u8]) -> Prices",
         "gimletsorrel_price_list(input: &[u8]) -> Text",
+        "gimletsorrel_version() -> u32",
     ];
     assert_eq!(exported, declared);
     for line in ["use winners::Worth;", "use winners::SigmaTable;", "use judge::Prices;", "use text::Text;"] {

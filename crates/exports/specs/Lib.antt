@@ -1,0 +1,2 @@
+-- The definition that the contracts cite. Assumes nothing.
+pub mod Version
