@@ -1,5 +1,5 @@
 -- The number of the first of questions 11 to 15 that refuses a certificate. It is 7 before any other where one of the certificate's numbers
--- is out of range, and also where some σ is above 6,000,000 or some ρ above 1,000,000 (Bounds.antt), though no question of the paper asks
+-- is out of range, and also where some σ is above 6,000,000 or some ρ above 1,000,000 (Bounds.antt), though no question of FORMAT asks
 -- for that: a book's bounds never are. Cited by the contract. Assumes nothing: these are definitions.
 use mathlib.Core.Bool.{cond, _&&_}
 use Prim.Native.Nat.{ℕ}

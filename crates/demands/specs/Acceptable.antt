@@ -1,5 +1,5 @@
--- The two sides of the second demand: a call in form, and a sheet that deserves to be accepted, in words that name no recursion and no
--- bound on sets where FORMAT names none. Cited by the demands. Assumes nothing: these are definitions.
+-- The two sides of the second demand: a call in form, and a sheet that deserves to be accepted. The greatest value is said without the
+-- recursion, and admissible discounts without bounds on sets. Cited by the demands. Assumes nothing: these are definitions.
 use mathlib.Core.Path.{_≡_}
 use mathlib.Core.Bool.{true}
 use mathlib.Core.List.{List}

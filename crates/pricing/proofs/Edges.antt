@@ -1,4 +1,4 @@
--- The edges of question 7, computed: each number of a certificate is let through at its bound and not past it, by the paper's figures and
+-- The edges of question 7, computed: each number of a certificate is let through at its bound and not past it, by FORMAT's figures and
 -- not by the names that they have in specs/Ranges. So a bound cannot move unseen, in code and definition together. Cited by nothing.
 -- Assumes nothing.
 use mathlib.Core.Path.{_≡_, refl}

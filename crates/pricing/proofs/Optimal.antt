@@ -1,4 +1,4 @@
--- Certified discounts are the best: whatever other discounts within the bounds have a lesser sum, or an equal sum and a greater distance.
+-- Certified discounts are the best: any other discounts within the bounds have a lesser sum, or an equal sum and a greater distance.
 -- That the certified discounts are themselves within the bounds (questions 10 and 11) is not used, nor that q and r are positive. Cited by
 -- the theorems on discounts as fractions. Assumes nothing.
 use mathlib.Core.Path.{_≡_, sym, ap, _∙_}

@@ -1,4 +1,5 @@
-//! Tests: what is measured against answers as the proved library, over accepted, damaged and randomly changed calls.
+//! Tests: the programs in Rust that we are measured against answer as the proved library does, over accepted, damaged and randomly
+//! changed calls.
 
 use crate::books::{KINDS, TIGHT};
 use crate::calls::Call;

@@ -1,7 +1,7 @@
-//! The same search as one would write it in Rust, with its bounds checks: links, weights and hours once, then for each set its ceilings, and the
-//! clients left, from a floor. Hours of up to four kinds are one number, a lane of 16 bits for each. Instead of the hours left there are those used,
-//! 255 less those left, so that more is asked than is left where a lane goes over 255 and its guard bit is set. One test tells whether a bid fits and
-//! can raise the best.
+//! The same search as one would write it in Rust, with its bounds checks. Links, weights and hours are made once; then for each set its
+//! ceilings, and the search over the clients left, from a floor. Hours of up to four kinds are one number, a lane of 16 bits for each.
+//! Instead of the hours left there are those used, 255 less those left: a bid asks for more than is left exactly where a lane goes over
+//! 255, which sets its guard bit. One test tells whether a bid fits and can raise the best.
 
 use crate::book::{self, Book};
 

@@ -1,4 +1,5 @@
-//! Ratios of times in one run: the works take short turns, round after round, and each counts with its lower quartile.
+//! Ratios of times in one run: the programs that are compared take short turns, round after round, and each counts with the lower
+//! quartile of its times.
 
 use std::fs::read_to_string;
 use std::hint::black_box;

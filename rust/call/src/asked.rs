@@ -3,11 +3,14 @@
 /// Question n is at place n - 1.
 const QUESTIONS: [&str; 15] = [
     "Are there three bytes or more, and is the first a 1?",
-    "Are there at least as many bytes as the length says; do K, n and m stand inside those bytes and in their ranges; is the length the formula's?",
+    "Are there at least as many bytes as the length says; do K, n and m stand inside those bytes and in their \
+     ranges; is the length the formula's?",
     "Are all supplies, reserves and statuses in range?",
-    "Does each bid, of a withdrawn client too, name a client from 1 to n, ask for some hour and offer 1 to 1,000,000; and has every client eight bids or fewer?",
+    "Does each bid, of a withdrawn client too, name a client from 1 to n, ask for some hour and offer \
+     1 to 1,000,000; and has every client eight bids or fewer?",
     "Does each amount reach the reserves of its hours?",
-    "Does what follows the book begin with version 1, a length and a w from 0 to n; and is the length the formula's, and exactly that of what follows?",
+    "Does what follows the book begin with version 1, a length and a w from 0 to n; and is the \
+     length the formula's, and exactly that of what follows?",
     "Are q, s, X, Z, R, T, G, Y and U in their ranges?",
     "Are the bid numbers 1 to m, by strictly rising client, and the bids a combination?",
     "Is their value v?",

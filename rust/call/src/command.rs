@@ -1,10 +1,16 @@
 //! The command line: what is asked for, done, and the exit status.
 
-use crate::assemble::assemble;
+use crate::assemble::{self, is_text};
 use crate::explain::explain;
-use crate::files::{self, complain, told, Contents};
+use crate::files::{self, complain, placed, say, told, Contents};
 use crate::help::HELP;
+use crate::library;
+use crate::options::{asked, Asked};
+use crate::propose::{propose, Proposal};
+use crate::report::report;
 use crate::show::show;
+use crate::sums::numbers;
+use crate::words::Fault;
 use std::ffi::{OsStr, OsString};
 
 /// Exit statuses, as `--help` has them.
@@ -13,99 +19,95 @@ pub const REFUSED: u8 = 1;
 pub const WRONG: u8 = 2;
 pub const UNREADABLE: u8 = 3;
 
+/// The most faults that are told one by one.
+const MOST_FAULTS: usize = 100;
+
+/// What was done, or the exit status for what was not, which has been told.
+type Done<T> = Result<T, u8>;
+
 /// Runs the command with the words after its name.
 pub fn run(words: &[OsString]) -> u8 {
-    // A word that is no text is the name of a file; which one, `words` says.
-    let said: Vec<&str> = words
-        .iter()
-        .map(|word| word.to_str().unwrap_or(""))
-        .collect();
-    if said.iter().any(|&word| word == "--help" || word == "-h") {
-        return put(None, HELP.as_bytes(), DONE);
-    }
-    match said[..] {
-        ["assemble", file] if is_file(file) => assemble_file(&words[1], None),
-        ["assemble", file, "-o", _] if is_file(file) => assemble_file(&words[1], Some(&words[3])),
-        ["assemble", "-o", _, file] if is_file(file) => assemble_file(&words[3], Some(&words[2])),
-        ["show", file] if is_file(file) => show_file(&words[1]),
-        ["explain", file] if is_file(file) => explain_file(&words[1]),
-        _ => {
-            complain("assemble FILE [-o OUT], show FILE or explain FILE; call --help says more");
-            WRONG
-        }
-    }
+    let done = match asked(words) {
+        Err(wrong) => told_as(&format!("{wrong}; call --help says more"), WRONG),
+        Ok(Asked::Help) => put(HELP.as_bytes()).map(|()| DONE),
+        Ok(Asked::Version) => put(version().as_bytes()).map(|()| DONE),
+        Ok(Asked::Assemble { file, out }) => assemble_file(&file, &out),
+        Ok(Asked::Show { file, json: false }) => show_file(&file),
+        Ok(Asked::Explain { file, json: false }) => explain_file(&file),
+        Ok(Asked::Show { file, json: true }) => report_file(&file, |_| DONE),
+        Ok(Asked::Explain { file, json: true }) => report_file(&file, verdict),
+        Ok(Asked::Propose { file, out }) => propose_file(&file, &out),
+    };
+    done.unwrap_or_else(|status| status)
 }
 
-/// Standard input, or a name that cannot be taken for an option.
-fn is_file(name: &str) -> bool {
-    name == "-" || !name.starts_with('-')
+fn version() -> String {
+    format!("call {}\n", env!("CARGO_PKG_VERSION"))
 }
 
-fn put(out: Option<&OsStr>, bytes: &[u8], status: u8) -> u8 {
-    match files::write(out, bytes) {
-        Ok(()) => status,
-        Err(error) => {
-            complain(&error);
-            UNREADABLE
-        }
-    }
+fn told_as<T>(words: &str, status: u8) -> Done<T> {
+    complain(words);
+    Err(status)
 }
 
-/// Reads a file and does something with what is in it.
-fn with_file(file: &OsStr, then: impl Fn(Contents) -> u8) -> u8 {
-    match files::read(file) {
-        Ok(contents) => then(contents),
-        Err(error) => {
-            complain(&error);
-            UNREADABLE
+/// Writes to standard output.
+fn put(bytes: &[u8]) -> Done<()> {
+    put_to(OsStr::new("-"), bytes)
+}
+
+fn put_to(out: &OsStr, bytes: &[u8]) -> Done<()> {
+    files::write(out, bytes).or_else(|error| told_as(&error, UNREADABLE))
+}
+
+/// The bytes of the call that a file holds, as bytes or as text.
+fn call_in(file: &OsStr) -> Done<Vec<u8>> {
+    let contents = read(file)?;
+    match is_text(&contents.bytes) {
+        true => call_of_text(file, contents),
+        false => {
+            tell_cut(file, &contents);
+            Ok(contents.bytes)
         }
     }
 }
 
-fn assemble_file(file: &OsStr, out: Option<&OsStr>) -> u8 {
-    with_file(file, |contents| {
-        if contents.cut {
-            complain(&format!(
-                "{} is longer than {} bytes, which no text of a call is",
-                told(file),
-                files::MOST
-            ));
-            return WRONG;
-        }
-        match assemble(&contents.bytes) {
-            Ok(bytes) => put(out.filter(|&name| name != "-"), &bytes, DONE),
-            Err(fault) => {
-                complain(&format!("{}, {fault}", told(file)));
-                WRONG
-            }
-        }
+/// The bytes of the call that a text makes.
+fn call_of_text(file: &OsStr, contents: Contents) -> Done<Vec<u8>> {
+    if contents.cut {
+        let (name, most) = (told(file), files::MOST);
+        return told_as(
+            &format!("{name} is longer than {most} bytes, which no text of a call is"),
+            WRONG,
+        );
+    }
+    let reading = assemble::read(&contents.bytes);
+    for Fault { line, column, what } in &reading.warnings {
+        say(&format!(
+            "{}:{line}:{column}: warning: {what}",
+            placed(file)
+        ));
+    }
+    reading.bytes().or_else(|faults| {
+        tell_faults(file, &faults);
+        Err(WRONG)
     })
 }
 
-fn show_file(file: &OsStr) -> u8 {
-    with_file(file, |contents| {
-        tell_cut(file, &contents);
-        let shown = show(&contents.bytes);
-        let status = if shown.stopped.is_some() {
-            REFUSED
-        } else {
-            DONE
-        };
-        let status = put(None, shown.text.as_bytes(), status);
-        if let Some(stopped) = shown.stopped {
-            complain(&format!("{}: {stopped}", told(file)));
-        }
-        status
-    })
+fn read(file: &OsStr) -> Done<Contents> {
+    files::read(file).or_else(|error| told_as(&error, UNREADABLE))
 }
 
-fn explain_file(file: &OsStr) -> u8 {
-    with_file(file, |contents| {
-        tell_cut(file, &contents);
-        let explained = explain(&contents.bytes);
-        let status = if explained.accepted { DONE } else { REFUSED };
-        put(None, explained.text.as_bytes(), status)
-    })
+fn tell_faults(file: &OsStr, faults: &[Fault]) {
+    for fault in faults.iter().take(MOST_FAULTS) {
+        say(&format!("{}:{fault}", placed(file)));
+    }
+    if faults.len() > MOST_FAULTS {
+        complain(&format!(
+            "{} has {} faults more",
+            told(file),
+            faults.len() - MOST_FAULTS
+        ));
+    }
 }
 
 /// The longest call has 1,406 bytes, so what is cut off changes no answer.
@@ -116,5 +118,87 @@ fn tell_cut(file: &OsStr, contents: &Contents) {
             told(file),
             files::MOST
         ));
+    }
+}
+
+fn may_write(file: &OsStr, out: &OsStr) -> Done<()> {
+    match files::no_place_for_bytes(file, out) {
+        None => Ok(()),
+        Some(why) => told_as(&why, WRONG),
+    }
+}
+
+fn assemble_file(file: &OsStr, out: &OsStr) -> Done<u8> {
+    may_write(file, out)?;
+    let contents = read(file)?;
+    if !contents.cut && !contents.bytes.is_empty() && !is_text(&contents.bytes) {
+        let said = format!("{} is no text; perhaps it is a call already", told(file));
+        return told_as(&said, WRONG);
+    }
+    let call = call_of_text(file, contents)?;
+    put_to(out, &call)?;
+    Ok(DONE)
+}
+
+fn show_file(file: &OsStr) -> Done<u8> {
+    let shown = show(&call_in(file)?);
+    put(shown.text.as_bytes())?;
+    match shown.stopped {
+        None => Ok(DONE),
+        Some(stopped) => told_as(&format!("{}: {stopped}", told(file)), REFUSED),
+    }
+}
+
+fn explain_file(file: &OsStr) -> Done<u8> {
+    let explained = explain(&call_in(file)?);
+    put(explained.text.as_bytes())?;
+    Ok(if explained.accepted { DONE } else { REFUSED })
+}
+
+fn report_file(file: &OsStr, status: fn(&[u8]) -> u8) -> Done<u8> {
+    let call = call_in(file)?;
+    put(format!("{}\n", report(&call)).as_bytes())?;
+    Ok(status(&call))
+}
+
+fn verdict(call: &[u8]) -> u8 {
+    match library::ask(call).number {
+        0 => DONE,
+        _ => REFUSED,
+    }
+}
+
+fn propose_file(file: &OsStr, out: &OsStr) -> Done<u8> {
+    may_write(file, out)?;
+    let book = call_in(file)?;
+    match propose(&book) {
+        Err(why) => told_as(&format!("{}: {why}", told(file)), REFUSED),
+        Ok(proposal) => {
+            tell_proposal(&proposal);
+            put_to(out, &proposal.call)?;
+            Ok(DONE)
+        }
+    }
+}
+
+/// Whose the proposal is, and whose the verdict.
+fn tell_proposal(proposal: &Proposal) {
+    let first = proposal.reply.list.lines().next().unwrap_or("");
+    complain(&format!(
+        "the sheet is a proposal, made by a method that is not proved; the verdict is the proved library's: {first}"
+    ));
+    let others = match proposal.equals {
+        0 => String::new(),
+        1 => "another combination is worth as much".to_string(),
+        count => format!("{count} other combinations are worth as much"),
+    };
+    if !others.is_empty() {
+        complain(&format!(
+            "{others}; the proposal takes bids {}",
+            numbers(&proposal.bids)
+        ));
+    }
+    if proposal.replaced {
+        complain("what follows the book was not looked at, and another sheet stands in its place");
     }
 }

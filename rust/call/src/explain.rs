@@ -4,9 +4,10 @@
 use crate::asked::question;
 use crate::library::{self, Reply};
 use crate::parts::{book_of, sheet_of, weights_of};
+use crate::place::Place;
 use crate::sums::Sums;
 use crate::{places_balance, places_book, places_head, places_sheet};
-use reference::Book;
+use reference::{Book, Sheet};
 
 /// What is said of a call, and whether the library has accepted it.
 pub struct Explained {
@@ -46,64 +47,50 @@ fn difference(second: &str) -> String {
 fn refusal(input: &[u8], number: u32) -> String {
     let asked = question(number).unwrap_or("");
     let found = places(number, input);
-    let found = match found.is_empty() {
+    let found: Vec<String> = match found.is_empty() {
         true => {
             vec!["the second implementation finds nothing wrong with this question".to_string()]
         }
-        false => found,
+        false => found.into_iter().map(|place| place.words).collect(),
     };
     format!(
         "Question {number}: {asked}\nNo:\n    {}\nThe words are worked out beside the library, to help a reader; they decide nothing.\n",
-        found.join("\n    ")
+        found.join("\n").replace('\n', "\n    ")
     )
 }
 
 /// Where a call fails a question, and by how much. Empty where no place is found.
-pub fn places(number: u32, input: &[u8]) -> Vec<String> {
+pub fn places(number: u32, input: &[u8]) -> Vec<Place> {
     match number {
         1 => places_head::first_bytes(input),
         2 => places_head::book_length(input),
-        3..=6 => after_book(number, input),
-        _ => after_sheet(number, input),
+        _ => after_head(number, input).unwrap_or_default(),
     }
 }
 
-fn after_book(number: u32, input: &[u8]) -> Vec<String> {
-    let Some(part) = book_of(input) else {
-        return Vec::new();
-    };
-    match number {
+/// Where it fails a question after 2, if there is what the question asks about.
+fn after_head(number: u32, input: &[u8]) -> Option<Vec<Place>> {
+    let part = book_of(input)?;
+    let places = match number {
         3 => places_book::ranges(&part),
         4 => places_book::bids(&part),
         5 => places_book::reserves(&part),
-        _ => places_head::sheet_length_places(&part),
-    }
+        6 => places_head::sheet_length_places(&part),
+        7 => places_sheet::ranges(&sheet_of(&part)?),
+        8 => places_sheet::winners(&part.book, &sheet_of(&part)?),
+        _ => weighed(number, input, &part.book, &sheet_of(&part)?.sheet)?,
+    };
+    Some(places)
 }
 
-fn after_sheet(number: u32, input: &[u8]) -> Vec<String> {
-    let Some(part) = book_of(input) else {
-        return Vec::new();
-    };
-    let Some(sheet) = sheet_of(&part) else {
-        return Vec::new();
-    };
-    match number {
-        7 => places_sheet::ranges(&sheet),
-        8 => places_sheet::winners(&part.book, &sheet),
-        _ => weighed(number, input, &part.book, &sheet.sheet),
-    }
-}
-
-fn weighed(number: u32, input: &[u8], book: &Book, sheet: &reference::Sheet) -> Vec<String> {
-    let Some(weights) = weights_of(input, book, sheet) else {
-        return Vec::new();
-    };
+fn weighed(number: u32, input: &[u8], book: &Book, sheet: &Sheet) -> Option<Vec<Place>> {
+    let weights = weights_of(input, book, sheet)?;
     let sums = Sums {
         sheet,
         weights: &weights,
     };
     let about = places_balance::About { book, sums: &sums };
-    match number {
+    Some(match number {
         9 => about.value(),
         10 => about.reserves(),
         11 => about.sets(),
@@ -112,7 +99,7 @@ fn weighed(number: u32, input: &[u8], book: &Book, sheet: &reference::Sheet) -> 
         14 => about.distances(),
         15 => about.pairs(),
         _ => Vec::new(),
-    }
+    })
 }
 
 /// Each price of an accepted call: the library's numerators, over its q.

@@ -1,17 +1,22 @@
 //! What `call --help` prints.
 
 pub const HELP: &str = "\
-call: writes, shows and explains calls for package-auction prices
+call: writes, shows, explains and proposes calls for package-auction prices
 
     call assemble FILE [-o OUT]   makes a call from its text, and writes it to OUT or to standard output
-    call show FILE                prints a call as that text, with the figures to redo the sum as comments
-    call explain FILE             says in words which question a refused call fails, where and by how much
-    call --help                   prints this
+    call show FILE [--json]       prints a call as that text, with the figures to redo the sum as comments;
+                                  of a book alone v, and σ of each set of its clients
+    call explain FILE [--json]    says in words which question a refused call fails, where and by how much
+    call propose FILE [-o OUT]    makes a call from a book: its sheet is proposed by a method that is not
+                                  proved, and written only if the proved library accepts it
+    call --help, call --version   print this, and the version
 
-FILE - is standard input, and OUT - standard output. No more than 1,048,576 bytes of a file are read.
+FILE of show, explain and propose is a call, a book, or the text of one. FILE - is standard input, and OUT -
+standard output. After -- every word is a FILE. No more than 1,048,576 bytes of a file are read.
 
 The command never decides. The number and the prices that it prints are the proved library's answer, and
 v and σ are made of the library's greatest values; all other words and figures are worked out beside it.
+--json prints one object with all of them; docs/CALLS.md has its fields.
 
 The text, one line for each thing, in this order. '#' begins a comment. Numbers are whole and decimal.
 
@@ -29,10 +34,12 @@ The text, one line for each thing, in this order. '#' begins a comment. Numbers 
 The first number of kind, client, bid and winner lines may be left out; where it stands it is the next one.
 Any number that fits its bytes can be written: whether it is in range is for the questions to ask.
 A text without a sheet makes a book alone. docs/CALLS.md has an example; docs/FORMAT.md the questions.
+Faults of a text are told all at once on standard error, each as FILE:LINE:COLUMN: and what is wrong.
 
 Exit status
-    0   assemble: the call is written; show: the whole call is shown; explain: the call is accepted
-    1   show: question 1, 2 or 6 stops it, and standard error says where; explain: the call is refused
-    2   the command line is wrong, or the text is: standard error names the line and the column
+    0   assemble, propose: the call is written; show: all is shown; explain: the call is accepted
+    1   show: question 1, 2 or 6 stops it, and standard error says where; explain: the call is refused;
+        propose: the book is refused, or the proposal is, and nothing is written
+    2   the command line is wrong, or the text is
     3   a file cannot be read or written
 ";

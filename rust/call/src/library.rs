@@ -8,6 +8,7 @@ use reference::{Book, Weights};
 pub struct Reply {
     /// 0 for acceptance, or the number of the refusal.
     pub number: u32,
+    pub w: u32,
     pub q: u32,
     pub prices: [u64; 6],
     /// What the program prints, without the last line feed.
@@ -21,15 +22,38 @@ pub fn ask(input: &[u8]) -> Reply {
     let list = text.bytes.get(..text.len).unwrap_or(&text.bytes);
     Reply {
         number: answer.number,
+        w: answer.w,
         q: answer.q,
         prices: answer.prices,
         list: String::from_utf8_lossy(list).trim_end().to_string(),
     }
 }
 
+/// 0 for a sound book, or the number of the first question that it fails.
+pub fn book_refusal(input: &[u8]) -> u32 {
+    certifier::greatest_value(input, 0).number
+}
+
 /// v, if the library calls the book sound.
 pub fn greatest(input: &[u8]) -> Option<i128> {
     greatest_without(input, 0)
+}
+
+/// v, and σ of each set of clients by the set's number, whose bit 0 is client 1.
+pub struct Surpluses {
+    pub v: i128,
+    pub sigma: Vec<i128>,
+}
+
+/// The library's table for the clients of a book that it calls sound.
+pub fn surpluses(input: &[u8], book: &Book) -> Option<Surpluses> {
+    let table = certifier::surpluses(input);
+    let sets = 1_usize.checked_shl(book.status.len() as u32)?;
+    let sigma = table.sigma.iter().take(sets);
+    (table.number == 0).then(|| Surpluses {
+        v: table.value.into(),
+        sigma: sigma.map(|&sigma| sigma.into()).collect(),
+    })
 }
 
 /// v, σ and ρ for winners that are a combination. Every greatest value is the library's.

@@ -1,13 +1,44 @@
 //! A number out of its range, in words.
 
-/// What a number is out of its range by, if it is.
-pub fn outside(value: i128, least: i128, most: i128) -> Option<String> {
-    if value > most {
-        Some(format!("{value}, {} more than {most}", value - most))
-    } else if value < least {
-        Some(format!("{value}, {} less than {least}", least - value))
-    } else {
-        None
+use std::fmt;
+
+/// A number and the bound that it breaks.
+pub struct Outside {
+    pub value: i128,
+    pub bound: i128,
+    /// `least` or `most`.
+    pub side: &'static str,
+}
+
+/// The number and its bound, if it is out of its range.
+pub fn outside(value: i128, least: i128, most: i128) -> Option<Outside> {
+    let (bound, side) = match (value < least, value > most) {
+        (true, _) => (least, "least"),
+        (_, true) => (most, "most"),
+        _ => return None,
+    };
+    Some(Outside { value, bound, side })
+}
+
+impl Outside {
+    pub fn by(&self) -> i128 {
+        (self.value - self.bound).abs()
+    }
+}
+
+impl fmt::Display for Outside {
+    fn fmt(&self, out: &mut fmt::Formatter) -> fmt::Result {
+        let more = match self.side {
+            "most" => "more",
+            _ => "less",
+        };
+        write!(
+            out,
+            "{}, {} {more} than {}",
+            self.value,
+            self.by(),
+            self.bound
+        )
     }
 }
 

@@ -3,12 +3,12 @@
 use crate::explain;
 use crate::library::{self, Reply};
 use crate::parts::{book_of, sheet_of, weights_of, BookPart};
-use crate::show_book::book_lines;
+use crate::show_book::{book_lines, surplus_lines};
 use crate::show_sheet::{balance_lines, sheet_lines};
 use crate::sums::Sums;
 use reference::questions::question_1;
 
-/// The text of a call. Where question 1, 2 or 6 stops it, which and where, and what could be shown.
+/// The text of a call, or of a book alone. Where question 1, 2 or 6 stops it, which and where, and what could be shown.
 pub struct Shown {
     pub text: String,
     pub stopped: Option<String>,
@@ -22,7 +22,7 @@ pub fn show(input: &[u8]) -> Shown {
     };
     let start = opening(&reply) + &book_lines(&part);
     let Some(sheet_part) = sheet_of(&part) else {
-        return stopped(start, 6, input);
+        return without_sheet(start + &surplus_lines(input, &part.book), input, &part);
     };
     let sheet = &sheet_part.sheet;
     let weights = weights_of(input, &part.book, sheet);
@@ -37,9 +37,21 @@ pub fn show(input: &[u8]) -> Shown {
     }
 }
 
+/// A book alone is shown whole; what follows it and is no sheet stops at question 6.
+fn without_sheet(text: String, input: &[u8], part: &BookPart) -> Shown {
+    if !part.rest.is_empty() {
+        return stopped(text, 6, input);
+    }
+    Shown {
+        text: text + "\n# A book alone: no sheet follows it, which question 6 asks for.\n",
+        stopped: None,
+    }
+}
+
 fn stopped(text: String, number: u32, input: &[u8]) -> Shown {
-    let places = explain::places(number, input).join("; ");
-    let stop = format!("question {number} stops it: {places}");
+    let places = explain::places(number, input).into_iter();
+    let places: Vec<String> = places.map(|place| place.words).collect();
+    let stop = format!("question {number} stops it: {}", places.join("; "));
     Shown {
         text: format!("{text}\n# Nothing more can be shown, for {stop}\n"),
         stopped: Some(stop),
@@ -64,12 +76,11 @@ fn value_line(input: &[u8], part: &BookPart, sums: Option<&Sums>) -> String {
             format!("\n# v = {v}. The winners are no combination, so there is no σ or balance.\n")
         }
         Some(sums) => {
-            let short = sums.short_of_v(&part.book);
-            let mark = if short == 0 { "" } else { " !" };
-            format!(
-                "\n# 9: v = {v}; the winners' amounts make {}, {short} less{mark}\n",
-                v - short
-            )
+            let made = match sums.short_of_v(&part.book) {
+                0 => format!("{v} too"),
+                short => format!("{}, {short} less than v !", v - short),
+            };
+            format!("\n# 9: v = {v}; the winners' amounts add up to {made}\n")
         }
     }
 }

@@ -1,7 +1,9 @@
-//! The lines of a book.
+//! The lines of a book, and what each set of its clients adds to its greatest value.
 
+use crate::library;
 use crate::parts::BookPart;
 use crate::rows::Rows;
+use reference::sheet::holds;
 use reference::{Bid, Book};
 
 pub fn book_lines(part: &BookPart) -> String {
@@ -69,4 +71,36 @@ fn bid_comment(book: &Book, bid: &Bid) -> String {
         "reserves {} = {reserves}, ρ {above}{mark}{standing}",
         terms.join(" + ")
     )
+}
+
+/// v and σ of each set of clients, the library's, where it calls the book sound.
+pub fn surplus_lines(input: &[u8], book: &Book) -> String {
+    let Some(table) = library::surpluses(input, book) else {
+        return "\n# The book is not sound, so there is no v and no σ.\n".to_string();
+    };
+    let v = table.v;
+    let line = |(set, sigma): (usize, &i128)| {
+        let clients = clients(set, book.status.len());
+        format!(
+            "#     set {set}, {clients}: {v} - {} = {sigma}\n",
+            v - sigma
+        )
+    };
+    let lines = table.sigma.iter().enumerate().skip(1).map(line);
+    format!(
+        "\n# v = {v}\n# σ of each set of clients: v less the greatest value without them\n{}",
+        lines.collect::<String>()
+    )
+}
+
+/// The clients of a set: bit 0 of its number is client 1.
+fn clients(set: usize, n: usize) -> String {
+    let members: Vec<String> = (0..n)
+        .filter(|&k| holds(set, k))
+        .map(|k| (k + 1).to_string())
+        .collect();
+    match members.len() {
+        1 => format!("client {}", members.join(" ")),
+        _ => format!("clients {}", members.join(" ")),
+    }
 }

@@ -100,3 +100,15 @@ pub fn members(set: usize, w: usize) -> String {
         .collect();
     members.join(" ")
 }
+
+/// Bid numbers with commas between them.
+pub fn numbers(bids: &[usize]) -> String {
+    match bids.is_empty() {
+        true => "none".to_string(),
+        false => bids
+            .iter()
+            .map(|bid| bid.to_string())
+            .collect::<Vec<_>>()
+            .join(", "),
+    }
+}

@@ -25,13 +25,12 @@ pub struct Fault {
     pub what: String,
 }
 
+/// What a part of a text says, or every fault in it. No fault at all: it was told elsewhere.
+pub type Found<T> = Result<T, Vec<Fault>>;
+
 impl fmt::Display for Fault {
     fn fmt(&self, out: &mut fmt::Formatter) -> fmt::Result {
-        write!(
-            out,
-            "line {}, column {}: {}",
-            self.line, self.column, self.what
-        )
+        write!(out, "{}:{}: {}", self.line, self.column, self.what)
     }
 }
 
@@ -47,13 +46,7 @@ impl Word {
 
     /// The word as a message quotes it: short, and without odd characters.
     pub fn quoted(&self) -> String {
-        let start: String = self.text.chars().take(30).collect();
-        let more = if start.len() < self.text.len() {
-            "..."
-        } else {
-            ""
-        };
-        format!("'{}{more}'", start.escape_debug())
+        quoted(&self.text)
     }
 
     /// Whether it stands where a number stands.
@@ -63,28 +56,41 @@ impl Word {
     }
 }
 
-/// The rows of a text. `#` begins a comment; lines with no word are left out.
-pub fn rows(bytes: &[u8]) -> Result<Vec<Row>, Fault> {
-    let text = std::str::from_utf8(bytes).map_err(|error| not_text(bytes, error.valid_up_to()))?;
-    let text = text.strip_prefix('\u{feff}').unwrap_or(text);
-    let lines = text.split('\n').enumerate();
-    let rows = lines.map(|(at, line)| row(line, at + 1));
-    Ok(rows.filter(|row| !row.words.is_empty()).collect())
+/// A word in quotes: its first 30 characters, on one line.
+pub fn quoted(word: &str) -> String {
+    let start: String = word.chars().take(30).collect();
+    let more = if start.len() < word.len() { "..." } else { "" };
+    format!("'{}{more}'", start.escape_debug())
+}
+
+/// The rows of a text, and a fault for each line with a byte outside its comment that is no UTF-8.
+/// `#` begins a comment; lines with no word are left out.
+pub fn rows(bytes: &[u8]) -> (Vec<Row>, Vec<Fault>) {
+    let bytes = bytes.strip_prefix(b"\xef\xbb\xbf").unwrap_or(bytes);
+    let mut faults = Vec::new();
+    let mut rows = Vec::new();
+    for (at, line) in bytes.split(|&byte| byte == b'\n').enumerate() {
+        let said = line.split(|&byte| byte == b'#').next().unwrap_or(&[]);
+        match std::str::from_utf8(said) {
+            Ok(said) => rows.push(row(said, at + 1)),
+            Err(error) => faults.push(no_text(said, error.valid_up_to(), at + 1)),
+        }
+    }
+    rows.retain(|row| !row.words.is_empty());
+    (rows, faults)
 }
 
 /// The fault for a byte that is part of no character.
-fn not_text(bytes: &[u8], at: usize) -> Fault {
-    let before = String::from_utf8_lossy(&bytes[..at]);
-    let last = before.rsplit('\n').next().unwrap_or("");
+fn no_text(line: &[u8], at: usize, number: usize) -> Fault {
+    let before = String::from_utf8_lossy(&line[..at]);
     Fault {
-        line: before.matches('\n').count() + 1,
-        column: last.chars().count() + 1,
-        what: "a byte that is no UTF-8 text; is this a call and not its text?".to_string(),
+        line: number,
+        column: before.chars().count() + 1,
+        what: "a byte that is no UTF-8 text".to_string(),
     }
 }
 
-fn row(line: &str, number: usize) -> Row {
-    let said = line.split('#').next().unwrap_or("");
+fn row(said: &str, number: usize) -> Row {
     let mut words: Vec<Word> = Vec::new();
     let mut inside = false;
     for (at, c) in said.chars().enumerate() {

@@ -1,45 +1,11 @@
 //! The command as a program: exit statuses, standard input and output, files that are not there.
 
+mod common;
+
+use common::{command, root, run, run_with_input, shell, told, Scratch};
 use std::fs::{self, File};
-use std::io::Write;
-use std::path::{Path, PathBuf};
-use std::process::{Command, Output, Stdio};
-
-fn root() -> PathBuf {
-    Path::new(env!("CARGO_MANIFEST_DIR")).join("../..")
-}
-
-fn command(words: &[&str]) -> Command {
-    let mut command = Command::new(env!("CARGO_BIN_EXE_call"));
-    command.args(words).current_dir(root()).stdin(Stdio::null());
-    command
-}
-
-/// Runs it and gives the status, what it wrote, and what it complained of.
-fn run(words: &[&str]) -> (i32, Vec<u8>, String) {
-    told(command(words).output().unwrap())
-}
-
-fn told(output: Output) -> (i32, Vec<u8>, String) {
-    let status = output.status.code().expect("no signal");
-    (
-        status,
-        output.stdout,
-        String::from_utf8(output.stderr).unwrap(),
-    )
-}
-
-fn run_with_input(words: &[&str], input: &[u8]) -> (i32, Vec<u8>, String) {
-    let mut child = command(words)
-        .stdin(Stdio::piped())
-        .stdout(Stdio::piped())
-        .stderr(Stdio::piped())
-        .spawn()
-        .unwrap();
-    // The other end may stop reading first.
-    let _ = child.stdin.take().unwrap().write_all(input);
-    told(child.wait_with_output().unwrap())
-}
+use std::path::Path;
+use std::process::Stdio;
 
 #[test]
 fn the_spring_texts_are_the_spring_calls() {
@@ -55,19 +21,18 @@ fn from_standard_input_and_to_a_file() {
     let text = fs::read(root().join("examples/spring.txt")).unwrap();
     let call = fs::read(root().join("calls/spring.call")).unwrap();
     assert_eq!(run_with_input(&["assemble", "-"], &text).1, call);
-    let out = std::env::temp_dir().join(format!("spring-{}.call", std::process::id()));
-    let name = out.to_str().unwrap();
+    let out = Scratch::new("spring.call", b"");
+    let name = out.name();
     assert_eq!(
         run(&["assemble", "examples/spring.txt", "-o", name]),
         (0, vec![], String::new())
     );
-    assert_eq!(fs::read(&out).unwrap(), call);
+    assert_eq!(out.contents(), call);
     assert_eq!(
         run(&["assemble", "-o", name, "examples/spring-stale.txt"]).0,
         0
     );
-    assert_ne!(fs::read(&out).unwrap(), call);
-    fs::remove_file(&out).unwrap();
+    assert_ne!(out.contents(), call);
     assert_eq!(run(&["assemble", "examples/spring.txt", "-o", "-"]).1, call);
     let (status, shown, _) = run_with_input(&["show", "-"], &call);
     assert_eq!(status, 0);
@@ -82,12 +47,6 @@ fn statuses() {
     let (status, _, errors) = run(&["show", "calls/byte-too-many.call"]);
     assert_eq!(status, 1);
     assert_eq!(errors, "call: calls/byte-too-many.call: question 6 stops it: byte 144 is past the end of the sheet: 1 byte too many\n");
-    let (status, out, errors) = run_with_input(&["assemble", "-"], b"kind 1 supply 2\n");
-    assert_eq!((status, out), (2, vec![]));
-    assert_eq!(
-        errors,
-        "call: standard input, line 1, column 16: the kind line has no 'reserve'\n"
-    );
     for words in [
         &["show", "no such file"][..],
         &["assemble", "no\nsuch"],
@@ -99,18 +58,9 @@ fn statuses() {
     }
 }
 
-/// Showing or explaining a text says that it is one; a name that is no text is opened as it stands.
+/// A name that is no text is opened as it stands.
 #[test]
-fn texts_and_names() {
-    let (status, _, errors) = run(&["show", "examples/spring.txt"]);
-    assert!(
-        status == 1 && errors.contains("byte 0, the book's version, is 35 and must be 1"),
-        "{errors}"
-    );
-    assert!(
-        errors.contains("it reads as the text of a call"),
-        "{errors}"
-    );
+fn a_name_that_is_no_text() {
     use std::os::unix::ffi::OsStrExt;
     let path = std::env::temp_dir().join(std::ffi::OsStr::from_bytes(b"spring-\xff.call"));
     fs::copy(root().join("calls/spring.call"), &path).unwrap();
@@ -119,22 +69,217 @@ fn texts_and_names() {
     assert_eq!((status, errors.as_str()), (0, ""));
 }
 
+/// Faults as editors read them, all of them, with nothing written.
+#[test]
+fn faults_with_file_line_and_column() {
+    let text = b"kind 1 supply two reserve 1\nclient 1\nclient 2 withdrawn 5\n";
+    let told = |name: &str| {
+        format!("{name}:1:15: 'supply' takes a number, and 'two' is no whole number\n{name}:3:20: no number stands after 'withdrawn'\n")
+    };
+    let file = Scratch::new("faults.txt", text);
+    for command in ["assemble", "show", "explain", "propose"] {
+        assert_eq!(run(&[command, file.name()]), (2, vec![], told(file.name())));
+        assert_eq!(
+            run_with_input(&[command, "-"], text),
+            (2, vec![], told("<stdin>"))
+        );
+    }
+    let many = run_with_input(&["assemble", "-"], "wrong\n".repeat(500).as_bytes()).2;
+    assert_eq!(many.lines().count(), 101);
+    assert!(
+        many.ends_with("call: standard input has 400 faults more\n"),
+        "{many}"
+    );
+}
+
+#[test]
+fn no_text() {
+    let told = "call: calls/A.call is no text; perhaps it is a call already\n";
+    assert_eq!(
+        run(&["assemble", "calls/A.call"]),
+        (2, vec![], told.to_string())
+    );
+    let told = "<stdin>:1:1: the text has no line but blank ones and comments\n";
+    assert_eq!(
+        run_with_input(&["assemble", "-"], b""),
+        (2, vec![], told.to_string())
+    );
+}
+
+#[test]
+fn warnings_do_not_stop_it() {
+    let text = "kind supply 1 reserve 0\n".repeat(5) + "client\n";
+    let (status, out, errors) = run_with_input(&["assemble", "-"], text.as_bytes());
+    assert_eq!((status, out.len()), (0, 22));
+    assert_eq!(
+        errors,
+        "<stdin>:5:1: warning: this is kind 5; a book has 4 at most, and question 2 refuses more\n"
+    );
+    assert_eq!(run_with_input(&["show", "-"], text.as_bytes()).0, 1);
+}
+
+/// What is done with a text is what is done with the call that it makes.
+#[test]
+fn text_as_well_as_bytes() {
+    for name in ["spring", "spring-stale"] {
+        let (text, call) = (format!("examples/{name}.txt"), format!("calls/{name}.call"));
+        for words in [
+            &["show"][..],
+            &["explain"],
+            &["show", "--json"],
+            &["explain", "--json"],
+        ] {
+            let of_text = run(&[words, &[text.as_str()]].concat());
+            let of_call = run(&[words, &[call.as_str()]].concat());
+            assert!(!of_call.1.is_empty());
+            assert_eq!(of_text, of_call);
+        }
+    }
+    // A version that a text may begin with is still a call, by the length after it.
+    let mut call = fs::read(root().join("calls/A.call")).unwrap();
+    call[0] = b'#';
+    let (status, _, errors) = run_with_input(&["show", "-"], &call);
+    assert_eq!(status, 1);
+    assert!(
+        errors.contains("the book's version, is 35 and must be 1"),
+        "{errors}"
+    );
+    assert_eq!(run_with_input(&["explain", "-"], b"").0, 1);
+}
+
+/// Its own source is not overwritten, by whatever name.
+#[test]
+fn the_source_is_kept() {
+    let text = fs::read(root().join("examples/spring.txt")).unwrap();
+    let file = Scratch::new("kept.txt", &text);
+    let name = file.name();
+    let linked = format!("{name}.linked");
+    std::os::unix::fs::symlink(name, &linked).unwrap();
+    let dotted = format!(
+        "{}/./{}",
+        std::env::temp_dir().display(),
+        file.0.file_name().unwrap().to_str().unwrap()
+    );
+    for command in ["assemble", "propose"] {
+        for out in [name, &linked, &dotted] {
+            let (status, _, errors) = run(&[command, name, "-o", out]);
+            assert_eq!(status, 2, "{errors}");
+            assert!(
+                errors.contains("would be overwritten with what is made of it"),
+                "{errors}"
+            );
+        }
+        let (status, _, errors) = shell(&format!("CALL {command} - -o {name} <{name}"));
+        assert_eq!(status, 2, "{errors}");
+        assert_eq!(shell(&format!("CALL {command} {name} >>{name}")).0, 2);
+    }
+    fs::remove_file(linked).unwrap();
+    assert_eq!(file.contents(), text);
+}
+
+/// No bytes to a terminal. The first part holds for any machine; the second needs a command that gives a terminal.
+#[test]
+fn bytes_are_not_written_to_a_terminal() {
+    use call::files::no_place;
+    let (from, out) = ("examples/spring.txt".as_ref(), "-".as_ref());
+    assert!(no_place(from, out, true).is_some_and(|why| why.contains("is a terminal")));
+    assert_eq!(no_place(from, out, false), None);
+    for words in ["assemble", "propose", "assemble -o /dev/stdout"] {
+        let line =
+            format!("script -qec 'CALL {words} examples/spring.txt; echo status $?' /dev/null");
+        let (_, said, _) = shell(&format!("command -v script >/dev/null || exit 0; {line}"));
+        let said = String::from_utf8(said).unwrap();
+        let refused =
+            said.contains("is a terminal; name a file with -o") && said.contains("status 2");
+        assert!(said.is_empty() || refused, "{said}");
+    }
+    assert_eq!(
+        run(&["assemble", "examples/spring.txt", "-o", "/dev/null"]).0,
+        0
+    );
+}
+
+/// Wrong uses, and what is said of each.
+const WRONG: &[(&[&str], &str)] = &[
+    (
+        &[],
+        "no command is named; the commands are assemble, show, explain and propose",
+    ),
+    (
+        &["judge"],
+        "'judge' is no command; the commands are assemble, show, explain and propose",
+    ),
+    (
+        &["--json", "show", "a"],
+        "'--json' is no command; the commands are assemble, show, explain and propose",
+    ),
+    (&["show"], "show takes a FILE, and none is named"),
+    (
+        &["explain", "--json"],
+        "explain takes a FILE, and none is named",
+    ),
+    (
+        &["show", "a", "b"],
+        "show takes one FILE, and 'b' is a second",
+    ),
+    (
+        &["propose", "a", "-o", "c", "b"],
+        "propose takes one FILE, and 'b' is a second",
+    ),
+    (
+        &["show", "--all"],
+        "'--all' is no option of show, which takes --json",
+    ),
+    (
+        &["explain", "-o", "a", "b"],
+        "'-o' is no option of explain, which takes --json",
+    ),
+    (
+        &["assemble", "a", "-o"],
+        "-o takes the name of a file, and none follows it",
+    ),
+    (&["assemble", "-o", "a", "-o", "b", "c"], "-o stands twice"),
+    (
+        &["assemble", "-x", "a", "b"],
+        "'-x' is no option of assemble, which takes -o OUT",
+    ),
+    (
+        &["propose", "--json", "a"],
+        "'--json' is no option of propose, which takes -o OUT",
+    ),
+    (
+        &["--version", "a"],
+        "nothing follows --version, and 'a' does",
+    ),
+];
+
 #[test]
 fn wrong_command_lines() {
-    let lines: [&[&str]; 7] = [
-        &[],
-        &["judge"],
-        &["show"],
-        &["show", "a", "b"],
-        &["show", "--all"],
-        &["assemble", "a", "-o"],
-        &["assemble", "-x", "a", "b"],
-    ];
-    for words in lines {
-        let (status, out, errors) = run(words);
-        assert_eq!((status, out), (2, vec![]), "{words:?}");
-        assert!(errors.contains("call --help"), "{errors}");
+    for (words, wrong) in WRONG {
+        let errors = format!("call: {wrong}; call --help says more\n");
+        assert_eq!(run(words), (2, vec![], errors), "{words:?}");
     }
+}
+
+#[test]
+fn names_that_look_like_options() {
+    let (status, out, errors) = run(&["show", "--", "--json"]);
+    assert_eq!((status, out), (3, vec![]));
+    assert!(
+        errors.starts_with("call: --json cannot be read"),
+        "{errors}"
+    );
+    assert_eq!(run(&["show", "--json", "--", "calls/A.call"]).0, 0);
+}
+
+#[test]
+fn version() {
+    let (status, out, errors) = run(&["--version"]);
+    assert_eq!((status, errors.as_str()), (0, ""));
+    assert_eq!(
+        out,
+        format!("call {}\n", env!("CARGO_PKG_VERSION")).into_bytes()
+    );
 }
 
 #[test]
@@ -144,8 +289,9 @@ fn help() {
     assert_eq!((status, errors.as_str()), (0, ""));
     for word in [
         "assemble FILE [-o OUT]",
-        "show FILE",
-        "explain FILE",
+        "show FILE [--json]",
+        "explain FILE [--json]",
+        "propose FILE [-o OUT]",
         "never decides",
         "Exit status",
     ] {
@@ -203,16 +349,6 @@ fn output_that_cannot_be_written() {
 /// A reader that has gone, and descriptors that were never open, end in a status and no panic.
 #[test]
 fn readers_gone_and_descriptors_closed() {
-    let program = env!("CARGO_BIN_EXE_call");
-    let script = |line: &str| {
-        let line = line.replace("CALL", program);
-        let output = Command::new("bash")
-            .args(["-c", &line])
-            .current_dir(root())
-            .output()
-            .unwrap();
-        told(output)
-    };
     for line in [
         "{ sleep 0.2; CALL show calls/A.call; echo $? >&2; } | true",
         "CALL show calls/A.call >&-; echo $? >&2",
@@ -220,7 +356,7 @@ fn readers_gone_and_descriptors_closed() {
         "CALL show calls/empty.call 2>&- >&-; echo $? >&2",
         "CALL show calls/A.call >/dev/full 2>&-; echo $? >&2",
     ] {
-        let (_, _, errors) = script(line);
+        let (_, _, errors) = shell(line);
         let status = errors.lines().last().unwrap_or("");
         assert!(["0", "1", "3"].contains(&status), "{line}: {errors}");
         assert!(!errors.contains("panicked"), "{line}: {errors}");

@@ -1,6 +1,6 @@
 //! Damaged text: a fault with the right line and column, and never a panic.
 
-use call::assemble::assemble;
+use call::assemble::{assemble, read};
 use call::show::show;
 use call::words::Fault;
 use compare::Example;
@@ -13,8 +13,16 @@ fn spring() -> String {
     fs::read_to_string(path).unwrap()
 }
 
+/// The first fault of a text.
 fn fault(text: &str) -> Fault {
-    assemble(text.as_bytes()).expect_err(text)
+    let faults = assemble(text.as_bytes()).expect_err(text);
+    faults.into_iter().next().expect("a fault")
+}
+
+/// Every fault of a text, as it is printed after the file's name.
+fn faults(text: &str) -> Vec<String> {
+    let faults = assemble(text.as_bytes()).expect_err(text);
+    faults.iter().map(Fault::to_string).collect()
 }
 
 /// The fault's place and a part of its words.
@@ -32,6 +40,7 @@ fn at(text: &str, line: usize, column: usize, words: &str) {
 fn whole_lines() {
     at("", 1, 1, "no line");
     at("# nothing\n\n", 1, 1, "no line");
+    assert_eq!(assemble(b"book").as_deref(), Ok(&[1, 0, 6, 0, 0, 0][..]));
     at("kinds 1", 1, 1, "'kinds' begins no line");
     at("\n  7 kind", 2, 3, "'7' begins no line");
     at(
@@ -119,7 +128,7 @@ fn fields() {
         "kind 1 supply reserve 0",
         1,
         8,
-        "'supply' takes one number, and 0 stand here",
+        "'supply' takes one number, and none stands here",
     );
     at(
         "kind 1 supply 1 2 reserve 0",
@@ -144,7 +153,7 @@ fn hours() {
         &format!("{book}bid client 1 hours 1 amount 1"),
         4,
         14,
-        "2 in all, and 1 stand here",
+        "2 in all, and 1 stands here",
     );
     at(
         &format!("{book}bid client 1 hours 1 1 1 amount 1"),
@@ -229,8 +238,12 @@ fn counts_that_fit_no_byte() {
 
 #[test]
 fn odd_bytes() {
-    let not_text = assemble(b"kind 1 supply 1 reserve 0\n# \xcf\x83 \xff").unwrap_err();
-    assert_eq!((not_text.line, not_text.column), (2, 5), "{not_text}");
+    let said = assemble(b"kind 1 \xcf\x83 \xff supply 1 reserve 0\nclient \xff").unwrap_err();
+    let places: Vec<_> = said
+        .iter()
+        .map(|fault| (fault.line, fault.column))
+        .collect();
+    assert_eq!(places, [(1, 10), (2, 8)], "{said:?}");
     at(
         "kind 1 supply 1 reserve 0\nkl\0ient",
         2,
@@ -241,6 +254,106 @@ fn odd_bytes() {
     assert!(assemble("\u{feff}kind 1 supply 1 reserve 0\r\nclient 1\r\n".as_bytes()).is_ok());
     let call = assemble(spring().as_bytes()).unwrap();
     assert!(assemble(&call).is_err());
+}
+
+/// In a comment any byte may stand.
+#[test]
+fn odd_bytes_in_comments() {
+    let plain = assemble(b"kind 1 supply 1 reserve 0\nclient 1\n");
+    let said = assemble(b"# \xff\nkind 1 supply 1 reserve 0 # caf\xe9\nclient 1#\xc3\n");
+    assert!(plain.is_ok());
+    assert_eq!(plain, said);
+}
+
+/// All faults of a text at once, by line and column, and none that only follows from another.
+#[test]
+fn all_faults_at_once() {
+    let text = "kind 1 supply two reserve 10\nkind 2 suply 1 reserv 5\nclient 1 withdrwn\nclient 3\nclient 4\n\
+        bid 1 client 1 hours 1 x amont 90\nbid 2 client 1 hours 1 amount\nsheet q 1\nwinner 0 bid 1 X 1 Z\n\
+        set winers 0 Y 1\nset 1 Y 1\nset 1 U 1 V 2";
+    let expected = [
+        "1:15: 'supply' takes a number, and 'two' is no whole number",
+        "2:8: 'suply' is no word of a kind line; its words are supply, reserve",
+        "2:16: 'reserv' is no word of a kind line; its words are supply, reserve",
+        "3:10: 'withdrwn' is no word of a client line; its words are standing, withdrawn, status",
+        "4:8: '3' where client 2 comes next",
+        "6:24: 'hours' takes a number, and 'x' is no whole number",
+        "6:26: 'amont' is no word of a bid line; its words are client, hours, amount",
+        "7:16: 'hours' takes a number for each kind, 2 in all, and 1 stands here",
+        "7:24: 'amount' takes one number, and none stands here",
+        "8:10: the sheet line has no 's'",
+        "9:20: 'Z' takes one number, and none stands here",
+        "10:5: 'winers' is no word of a set line; its words are winners, Y, U",
+        "12:1: this set has a line already, line 11",
+        "12:11: 'V' is no word of a set line; its words are winners, Y, U",
+    ];
+    assert_eq!(faults(text), expected);
+}
+
+/// What a lost line would have counted is not held against the lines after it, and an order once broken is told once.
+#[test]
+fn faults_that_would_follow_are_not_told() {
+    let first = "lines begin with book, kind, client, bid, sheet, winner, set";
+    let lost = "kid 1 supply 1 reserve 0\nkind 2 supply 1 reserve 0\nclient\nbid client 1 hours 1 1 amount 5\n\
+        shet q 1 s 1\nwinner 1 bid 1 X 0\nset 2 Y 1";
+    let told = [
+        format!("1:1: 'kid' begins no line; {first}"),
+        format!("5:1: 'shet' begins no line; {first}"),
+    ];
+    assert_eq!(faults(lost), told);
+    let early = faults(
+        "sheet q 1 s 1\nkind supply 1 reserve 0\nkind supply 1 reserve 0\nclient\nsheet q 2 s 2",
+    );
+    let order = "the order is book, kind, client, bid, sheet, winner, set";
+    let told = [
+        format!("2:1: a kind line after a sheet line; {order}"),
+        "5:1: a second sheet line".to_string(),
+    ];
+    assert_eq!(early, told);
+    let winners = faults("kind supply 1 reserve 0\nwinner bid 1 X 0\nwinner bid 2 X 0\nset 3 Y 1");
+    assert_eq!(winners, ["2:1: a winner line before the sheet line"]);
+}
+
+/// The warnings for a text without a fault.
+fn warnings(text: &str) -> Vec<String> {
+    let reading = read(text.as_bytes());
+    assert_eq!(reading.faults, [], "{text}");
+    reading.warnings.iter().map(Fault::to_string).collect()
+}
+
+const KIND: &str = "kind supply 1 reserve 0\n";
+const MORE: &str = "at most, and question 2 refuses more";
+
+/// More than a book can have makes a call all the same, with a warning that names the question.
+#[test]
+fn too_many_kinds_and_clients() {
+    assert_eq!(warnings(&KIND.repeat(4)), Vec::<String>::new());
+    let told = format!("5:1: this is kind 5; a book has 4 {MORE}");
+    assert_eq!(warnings(&KIND.repeat(6)), [told]);
+    assert_eq!(warnings(&"client\n".repeat(6)), Vec::<String>::new());
+    let told = format!("7:1: this is client 7; a book has 6 {MORE}");
+    assert_eq!(warnings(&"client\n".repeat(9)), [told]);
+}
+
+#[test]
+fn too_many_bids_and_winners() {
+    let bids = |count: usize| -> String {
+        let bids = (0..count).map(|at| format!("bid client {} hours 1 amount 1\n", at % 6 + 1));
+        format!("{KIND}{}{}", "client\n".repeat(6), bids.collect::<String>())
+    };
+    assert_eq!(warnings(&bids(48)), Vec::<String>::new());
+    let of_client =
+        "56:1: this is bid 9 of client 1; a client has 8 at most, and question 4 refuses more";
+    let told = [
+        format!("56:1: this is bid 49; a book has 48 {MORE}"),
+        of_client.to_string(),
+    ];
+    assert_eq!(warnings(&bids(49)), told);
+    let winner = "winner bid 1 X 0\n";
+    let sheet = format!("{KIND}client\nclient\nsheet q 1 s 1\n{}", winner.repeat(2));
+    assert_eq!(warnings(&sheet), Vec::<String>::new());
+    let told = "7:1: 3 winners are more than the book's clients, 2, and question 6 refuses that";
+    assert_eq!(warnings(&format!("{sheet}{winner}")), [told]);
 }
 
 /// What is left out has its meaning, and what is written has another order or none.
@@ -272,10 +385,11 @@ fn each_line_cut_short() {
         for end in 0..line.len() {
             let mut cut = lines.clone();
             cut[at] = &line[..end];
-            let Err(fault) = assemble(cut.join("\n").as_bytes()) else {
+            let Err(found) = assemble(cut.join("\n").as_bytes()) else {
                 continue;
             };
             faults += 1;
+            let fault = &found[0];
             assert!(
                 fault.line == at + 1 || (end == 0 && fault.line > at),
                 "{fault} for {:?}",
@@ -333,9 +447,9 @@ fn random_damage_never_panics() {
         for _ in 0..rng.index(1, 4) {
             damage(&mut rng, &mut bytes);
         }
-        if let Err(fault) = assemble(&bytes) {
+        let lines = bytes.iter().filter(|&&byte| byte == b'\n').count() + 1;
+        for fault in assemble(&bytes).err().into_iter().flatten() {
             faults += 1;
-            let lines = bytes.iter().filter(|&&byte| byte == b'\n').count() + 1;
             assert!(
                 fault.line >= 1 && fault.line <= lines && fault.column >= 1,
                 "{fault}"

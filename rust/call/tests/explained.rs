@@ -44,7 +44,7 @@ fn every_number_has_places() {
             let found = places(number, &input.bytes);
             if number > 0 {
                 assert!(
-                    names_a_place(number, found.first().map_or("", String::as_str)),
+                    names_a_place(number, found.first().map_or("", |place| &place.words)),
                     "{}",
                     explained.text
                 );
@@ -61,11 +61,7 @@ fn no_place_is_found_where_the_answer_is_yes() {
     for _ in 0..100 {
         let input = Example::small(&mut rng).bytes();
         for number in 0..=17 {
-            assert_eq!(
-                places(number, &input),
-                Vec::<String>::new(),
-                "question {number}"
-            );
+            assert_eq!(places(number, &input), [], "question {number}");
         }
     }
 }
@@ -81,7 +77,7 @@ fn no_place_is_found_before_the_refusal() {
             for number in 1..refused {
                 assert_eq!(
                     places(number, &input.bytes),
-                    Vec::<String>::new(),
+                    [],
                     "{number} before {refused}"
                 );
             }

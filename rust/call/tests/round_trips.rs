@@ -9,9 +9,9 @@ use generate::{write, Rng};
 use reference::sheet::Winner;
 use reference::{Bid, Book, Multipliers, Sheet};
 
-/// Whether questions 1, 2 and 6 are answered yes.
+/// Whether questions 1, 2 and 6 are answered yes, or nothing follows a book that passes 1 and 2.
 fn is_whole(input: &[u8]) -> bool {
-    book_of(input).is_some_and(|part| sheet_of(&part).is_some())
+    book_of(input).is_some_and(|part| part.rest.is_empty() || sheet_of(&part).is_some())
 }
 
 /// Shows and assembles an input; says whether it was whole.
@@ -20,8 +20,8 @@ fn round_trip(input: &[u8]) -> bool {
     if is_whole(input) {
         assert_eq!(shown.stopped, None, "{input:?}");
         assert_eq!(
-            assemble(shown.text.as_bytes()).as_deref(),
-            Ok(input),
+            assemble(shown.text.as_bytes()),
+            Ok(input.to_vec()),
             "{}",
             shown.text
         );
@@ -187,8 +187,9 @@ fn a_book_alone() {
     for _ in 0..50 {
         let example = Example::small(&mut rng);
         let book = write::book(&example.book);
-        assert!(!round_trip(&book));
-        assert_eq!(assemble(show(&book).text.as_bytes()), Ok(book));
+        let shown = show(&book);
+        assert_eq!(shown.stopped, None);
+        assert_eq!(assemble(shown.text.as_bytes()), Ok(book));
     }
 }
 

@@ -1,4 +1,5 @@
-//! Inputs for tests: random sound books, and for each an exact sheet that must be accepted.
+//! Books, and for each an exact sheet that must be accepted: random ones for tests, and for `call propose`
+//! the sheet of any sound book.
 //!
 //! - `rng`: a seeded generator of numbers
 //! - `write`: books and sheets as bytes
@@ -24,4 +25,4 @@ pub mod write;
 
 pub use books::{random_book, small_book};
 pub use rng::Rng;
-pub use sheets::{acceptable_sheet, dressed, weighed, winning_combinations};
+pub use sheets::{acceptable_sheet, dressed, first_sheet, weighed, winning_combinations};

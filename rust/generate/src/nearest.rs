@@ -7,6 +7,7 @@
 use crate::fraction::{Fraction, ZERO};
 
 /// A limit: the factors times x total at most `most`.
+#[derive(Clone)]
 pub struct Limit {
     pub factors: Vec<Fraction>,
     pub most: Fraction,
@@ -68,7 +69,9 @@ fn across(active: &[Active], weights: &[Fraction], factors: &[Fraction]) -> Vec<
 /// The step at which the first multiplier but that of the sum comes down to zero, and whose it is.
 fn first_at_zero(active: &[Active], weights: &[Fraction]) -> Option<(Fraction, usize)> {
     let falling = (1..active.len()).filter(|&i| weights[i].sign() > 0);
-    falling.map(|i| (active[i].multiplier / weights[i], i)).min()
+    falling
+        .map(|i| (active[i].multiplier / weights[i], i))
+        .min()
 }
 
 /// Moves x onto the broken limit, dropping active limits whose multiplier falls to zero.

@@ -37,12 +37,27 @@ pub fn weighed(book: &Book) -> (Values, Vec<Vec<usize>>) {
 /// A sheet for winners of greatest value. Its discounts are the only ones; its multipliers, where
 /// there are several, are chosen at random, with the least q and s that they allow.
 pub fn acceptable_sheet(rng: &mut Rng, weights: &Weights, winners: &[usize]) -> Sheet {
+    sheet_by(&mut |count| shuffled(rng, count), weights, winners)
+}
+
+/// The same with the multipliers that come first: the same book always has the same sheet.
+pub fn first_sheet(weights: &Weights, winners: &[usize]) -> Sheet {
+    sheet_by(&mut |count| (0..count).collect(), weights, winners)
+}
+
+/// Gives the order in which so many bounds are taken up. Which multipliers are found hangs on it.
+type Order<'a> = &'a mut dyn FnMut(usize) -> Vec<usize>;
+
+/// q and s are in range whatever the order. s divides a determinant of zeros and ones, with six rows
+/// at most: 9 at most. q divides such a number times a sum of squares of such determinants: 9 × 150
+/// at most.
+fn sheet_by(order: Order, weights: &Weights, winners: &[usize]) -> Sheet {
     let w = winners.len();
     let bounds = bounds(weights);
-    let (order, in_other_order) = shuffled(rng, bounds.clone());
-    let mut greatest = greatest_sum(w, (1 << w) - 1, &in_other_order);
-    greatest.multipliers = in_order(&order, greatest.multipliers);
-    let nearest = nearest_discounts(rng, weights, &bounds, greatest.sum);
+    let places = order(bounds.len());
+    let mut greatest = greatest_sum(w, (1 << w) - 1, &taken(&places, &bounds));
+    greatest.multipliers = put_back(&places, greatest.multipliers);
+    let nearest = nearest_discounts(order, weights, &bounds, greatest.sum);
 
     let s = common_multiple(greatest.multipliers.iter().map(|f| f.bottom));
     let all_of_nearest = (nearest.x.iter())
@@ -89,21 +104,26 @@ pub fn bounds(weights: &Weights) -> Vec<Bound> {
     sets.chain(reserves).collect()
 }
 
-/// The items in a random order, with the place that each had before.
-fn shuffled<T>(rng: &mut Rng, items: Vec<T>) -> (Vec<usize>, Vec<T>) {
-    let mut pairs: Vec<(usize, T)> = items.into_iter().enumerate().collect();
-    rng.shuffle(&mut pairs);
-    pairs.into_iter().unzip()
+/// The places of so many items in a random order.
+fn shuffled(rng: &mut Rng, count: usize) -> Vec<usize> {
+    let mut places: Vec<usize> = (0..count).collect();
+    rng.shuffle(&mut places);
+    places
+}
+
+/// The items at these places, in their order.
+fn taken<T: Clone>(places: &[usize], items: &[T]) -> Vec<T> {
+    places.iter().map(|&place| items[place].clone()).collect()
 }
 
 /// The items back at the places they had before.
-fn in_order(order: &[usize], items: Vec<Fraction>) -> Vec<Fraction> {
-    let mut pairs: Vec<(usize, Fraction)> = order.iter().copied().zip(items).collect();
+fn put_back(places: &[usize], items: Vec<Fraction>) -> Vec<Fraction> {
+    let mut pairs: Vec<(usize, Fraction)> = places.iter().copied().zip(items).collect();
     pairs.sort_by_key(|pair| pair.0);
     pairs.into_iter().map(|pair| pair.1).collect()
 }
 
-fn nearest_discounts(rng: &mut Rng, weights: &Weights, bounds: &[Bound], sum: Fraction) -> Nearest {
+fn nearest_discounts(order: Order, weights: &Weights, bounds: &[Bound], sum: Fraction) -> Nearest {
     let w = weights.rho.len();
     if w == 0 {
         return Nearest {
@@ -127,9 +147,10 @@ fn nearest_discounts(rng: &mut Rng, weights: &Weights, bounds: &[Bound], sum: Fr
             .collect(),
         most: ZERO,
     });
-    let (order, limits) = shuffled(rng, from_bounds.chain(not_below_zero).collect());
-    let mut nearest = nearest(&target, sum, &limits);
-    nearest.of_limits = in_order(&order, nearest.of_limits);
+    let limits: Vec<Limit> = from_bounds.chain(not_below_zero).collect();
+    let places = order(limits.len());
+    let mut nearest = nearest(&target, sum, &taken(&places, &limits));
+    nearest.of_limits = put_back(&places, nearest.of_limits);
     nearest
 }
 

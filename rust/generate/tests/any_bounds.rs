@@ -44,4 +44,6 @@ fn sheets_balance_for_any_bounds() {
         largest_s = largest_s.max(sheet.s);
     }
     println!("largest q {largest_q}, s {largest_s}");
+    // What is said in `sheets` of any order, and on docs/SHEETS.md.
+    assert!(largest_q <= 9 * 150 && largest_s <= 9);
 }

@@ -73,7 +73,7 @@ pub fn book_refusal(bytes: &[u8]) -> u8 {
     sound_book(bytes).map_or_else(|number| number, |_| 0)
 }
 
-/// The whole output of the program ("Price list").
+/// The whole output of the program (FORMAT, "Answers").
 pub fn price_list(input: &[u8]) -> String {
     text(&outcome(input, Values::of))
 }

@@ -1,4 +1,4 @@
-//! A book ("Book and sheet", first list).
+//! A book (FORMAT, "Book").
 
 use crate::bytes::{number, Reader};
 

@@ -1,4 +1,4 @@
-//! Combinations, all of them, and greatest values as maxima over them ("Definitions").
+//! Combinations, all of them, and greatest values as maxima over them (FORMAT, "Terms").
 
 use crate::book::Book;
 

@@ -1,4 +1,4 @@
-//! A sheet ("Book and sheet", second list).
+//! A sheet (FORMAT, "Sheet").
 
 use crate::bytes::Reader;
 

@@ -1,4 +1,4 @@
-//! v, σ and ρ ("Definitions") for a book and its proposed winners.
+//! v, σ and ρ (FORMAT, "Terms") for a book and its proposed winners.
 
 use crate::book::Book;
 use crate::combinations::{clients_of, Values};

@@ -1,4 +1,4 @@
-//! Lines over a book that is a value: one that was read, and such with changes, sound or not.
+//! Lines over a book that is a value: books that were read, and the same with changes, sound or not.
 
 use crate::over_bytes::{full_book, six_clients};
 use crate::Line;
