@@ -65,6 +65,12 @@ module _ (m : Market) (wt : ℕ → ℕ) (c : ℕ) (ls : List ℕ) (p : ℕ) (on
       (max-either (choose m wt n c ls p on) (wt (suc n) + on (less ls (m .hours (suc n))))))
       (λ e. chosen-later n _ (choose-attained n))
 
+  -- what passing and every bid that is open stay within, the choice stays within
+  pub choose-within : (n t : ℕ) → p ≤ t
+      → ((i : ℕ) → 1 ≤ i → i ≤ n → open-to m c ls i ≡ true → wt i + on (less ls (m .hours i)) ≤ t) → choose m wt n c ls p on ≤ t
+  choose-within n t b h =
+      ⊎-elim (λ e. omega arith) (λ (i, l, o, e). omega (arith, h (suc i) (omega arith) l o)) (choose-attained n)
+
   -- one bid more, in a loop's numbers: it is open, or it is not
   pub choose-open : (n : ℕ) → open-to m c ls (n + 1) ≡ true
       → choose m wt (n + 1) c ls p on ≡ max (choose m wt n c ls p on) (wt (n + 1) + on (less ls (m .hours (n + 1))))

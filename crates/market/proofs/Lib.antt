@@ -26,5 +26,16 @@ pub mod Restrict
 pub mod Fitted
 pub mod Kept
 pub mod Renumber
+-- Clients as members: what they reach with fewer of them and with fewer hours, one member's row of bids, least hours, and the split.
+pub mod Adding
+pub mod Reach
+pub mod ReachKept
+pub mod Members
+pub mod RowOf
+pub mod Falling
+pub mod Inserting
+pub mod LeastHours
+pub mod Trimmed
+pub mod Split
 -- A market computed.
 pub mod Examples

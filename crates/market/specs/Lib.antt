@@ -6,4 +6,5 @@ pub mod Greatest
 -- What the theory and the layers above speak of besides: vectors, clients kept, and what changes.
 pub mod Vector
 pub mod Restrict
+pub mod Members
 pub mod Change

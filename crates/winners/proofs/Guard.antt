@@ -14,10 +14,10 @@ blocks : (k a b r s x y : ℕ) → r < 2 ^ k → s < 2 ^ k → x ≡ a * 2 ^ k +
 blocks k a b r s x y p q m n = rw (m, n) (and-block k a b r s p q)
 
 -- the guard is set from 256 on
-guard-set : (byte : ℕ) → byte < 256 → bitAnd (256 + byte) 256 ≡ 256
+pub guard-set : (byte : ℕ) → byte < 256 → bitAnd (256 + byte) 256 ≡ 256
 guard-set byte l = blocks 8 1 1 byte 0 (256 + byte) 256 l (omega arith) (omega arith) refl ∙ omega (arith, and-zero-r byte)
 
-guard-clear : (byte : ℕ) → byte < 256 → bitAnd byte 256 ≡ 0
+pub guard-clear : (byte : ℕ) → byte < 256 → bitAnd byte 256 ≡ 0
 guard-clear byte l = blocks 8 0 1 byte 0 byte 256 l (omega arith) (omega arith) refl ∙ omega (arith, and-zero-r byte)
 
 pub lane-apart : (lane g rest gs : ℕ) → lane < 65536 → g < 65536

@@ -20,10 +20,8 @@ use Rattle.book.proofs.Held.{held-kinds, held-clients, held-bids, held-bid, hel
 use Rattle.market.specs.Market.{fits}
 use Rattle.winners.specs.Combinations.{market, amount-of}
 use Rattle.winners.specs.ByKind.{by-kind}
-use Rattle.winners.specs.Lanes.{packed, used, Bytes}
-use Rattle.winners.specs.Looks.{fitting}
-use Rattle.winners.specs.Prepared.{Asked}
-use Rattle.winners.specs.Searching.{Left}
+use Rattle.winners.specs.Lanes.{packed, used, Bytes, Asked, Left}
+use Rattle.winners.specs.Rows.{fitting-all}
 use Rattle.winners.proofs.Books.{supplies-count}
 use Rattle.winners.proofs.KindEntries.{by-kind-take}
 use Rattle.winners.proofs.LaneSums.{fit-says, used-short}
@@ -148,7 +146,7 @@ module _ (v : Arrays) (h : sound-number v ≡ 0) where
       pub slot-is : (u a own t : ℕ) → Left (length (book-of v .kinds)) (supplies (book-of v)) u
           → a ≡ packed (bid-at (book-of v) (i + 1) .hours)
           → own ≡ client-of (book-of v) (i + 1) → t ≡ 7 - cond (eqb (bitAnd (u + a) 72058693566333184) 0) own 7
-          → t ≡ 7 - fitting (book-of v) .owner (i + 1)
+          → t ≡ 7 - fitting-all (book-of v) .owner (i + 1)
       unfolding market
       slot-is u a own t left ea eo et =
           let b = book-of v in

@@ -19,7 +19,7 @@ use Rattle.winners.proofs.Guard.{lane-test}
 
 -- ---- the lanes of n kinds
 
-guards : (n : ℕ) → ℕ
+unfoldable pub guards : (n : ℕ) → ℕ
 guards zero = 0
 guards (suc n) = 256 + 65536 * guards n
 

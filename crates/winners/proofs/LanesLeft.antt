@@ -9,10 +9,8 @@ use lib.Dec.{eqb}
 use lib.ListN.{length}
 use Rattle.market.specs.Market.{fits, less}
 use Rattle.market.proofs.Hours.{less-length}
-use Rattle.winners.specs.Lanes.{packed, used}
+use Rattle.winners.specs.Lanes.{packed, used, Asked, Left}
 use Rattle.winners.proofs.LaneSums.{fit-says, rest-says, less-bytes}
-use Rattle.winners.specs.Prepared.{Asked}
-use Rattle.winners.specs.Searching.{Left}
 
 module _ (k : ℕ) (hs ls : List ℕ) (pack sum : ℕ) (a : Asked k hs pack) (h : Left k ls sum) where
   same : sum + pack ≡ used 4 ls + packed hs

@@ -5,7 +5,7 @@ ghost use mathlib.Core.Path.{_≡_};
 ghost use Prim.Native.Nat.{_≤_, min};
 ghost use lib.Bits.{bitAnd};
 ghost use lib.ListN.{take};
-ghost use Rattle.winners.specs.Lanes.{packed, used, Bytes, ones, guards, lanes-full};
+ghost use Rattle.winners.specs.Lanes.{packed, used, Bytes, ones, guards, lanes-full, over-lanes, Smaller-lanes};
 
 // 255 in each lane.
 const FULL: u64 = 71777214294589695;
@@ -59,4 +59,23 @@ pub(crate) fn guards_set(after: u64) -> u64
     ensures { λ r. ⌜ (r ≡ bitAnd after guards) × (r ≤ guards) ⌝ }
 {
     after & GUARDS
+}
+
+// What each lane of one number exceeds the same lane of the other by, and 0 where it does not: the guards keep the lanes apart, and tell
+// which of them it is.
+fn over(a: u64, b: u64) -> u64
+    requires { ⌜ (a ≤ lanes-full) × (b ≤ lanes-full) ⌝ }
+    ensures { λ r. ⌜ r ≡ over-lanes a b ⌝ }
+{
+    let apart = a + GUARDS - b;
+    let above = apart & GUARDS;
+    apart & (above - (above >> 8))
+}
+
+// Lane by lane the smaller of two.
+pub(crate) fn least(a: u64, b: u64) -> u64
+    requires { ⌜ (a ≤ lanes-full) × (b ≤ lanes-full) ⌝ }
+    ensures { λ r. ⌜ Smaller-lanes a b r ⌝ }
+{
+    numbers::excess(a, over(a, b))
 }

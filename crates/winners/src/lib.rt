@@ -5,15 +5,18 @@
 // `book::sound` to it first, asks nothing of its caller, and its contract gives every field of its answer as a value (specs/). For callers
 // with the bytes of a book there are `greatest_value` and `surpluses`, each by `book::read` and one of these. Laws for the layers above:
 // proofs/Books.antt, Greatest.antt, Surplus.antt and Most.antt.
-mod array;
 mod choice;
+mod full;
 mod hours;
 mod lanes;
 mod lists;
+mod pass;
 mod places;
-mod search;
+mod rows;
+mod slots;
 mod table;
-mod tops;
+mod taken;
+mod trims;
 mod value;
 mod values;
 mod weighing;

@@ -1,4 +1,4 @@
-// Sets of a list of clients: whether the list rises, and the discard bytes of the clients that the sets' numbers pick.
+// Sets of a list of clients: whether the list rises, and the clients that the sets' numbers pick, as sets by slots.
 ghost use mathlib.Core.Path.{_≡_};
 ghost use mathlib.Core.Bool.{_&&_};
 ghost use lib.Dec.{leb};
@@ -25,7 +25,7 @@ pub(crate) fn is_rising(clients: [u8; 6], count: usize, n: usize) -> bool
     ok
 }
 
-// After the bytes of the first `end` sets each of them once more, with one bit.
+// After the entries of the first `end` sets each of them once more, with one bit.
 fn double(discards: &mut [u8; 64], end: usize, bit: u8)
     requires { ⌜ Room-to-double (now discards) end bit ⌝ }
     ensures { λ _. ⌜ Doubled (now (discards .entry)) end bit end (now (discards .exit)) ⌝ }
@@ -38,7 +38,7 @@ fn double(discards: &mut [u8; 64], end: usize, bit: u8)
     }
 }
 
-// The discard bytes of all sets of the list, by their numbers: with each client the sets double.
+// The clients that are picked, for all sets of the list by their numbers: with each client the sets double. Bit j is client 6 - j.
 pub(crate) fn discards(clients: [u8; 6], count: usize) -> [u8; 64]
     requires { ⌜ Rising-list clients count ⌝ }
     ensures { λ r. ⌜ Discards clients count r ⌝ }
@@ -46,7 +46,7 @@ pub(crate) fn discards(clients: [u8; 6], count: usize) -> [u8; 64]
     let mut discards = [0u8; 64];
     let mut j: usize = 0;
     while j < count {
-        double(&mut discards, 1 << j, 1 << (clients[j] - 1));
+        double(&mut discards, 1 << j, 1 << (6 - clients[j]));
         j += 1;
     }
     discards

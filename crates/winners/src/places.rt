@@ -1,17 +1,17 @@
-// The places of the array that the search looks up. Bids are counted from 0 here, and their weights stand from the first place on. A
-// client's slot is the number of clients left when the search comes to it: 6 for client 1, 1 for client 6; slot 0 is nobody's.
+// The places of what the search looks up. A client's slot is the number of clients from it on: 6 for client 1, 1 for client 6; slot 0 is
+// nobody's.
 
-// No bid, as a link.
-pub(crate) const NO_LINK: usize = 48;
+// How many slots there are, with nobody's.
+pub(crate) const SLOTS: usize = 7;
+// How many bids a row has room for. Of each slot the weights of its row stand from the first place on.
+pub(crate) const ROW: usize = 8;
 // The hours of the bids, in lanes.
-pub(crate) const HOURS: usize = 48;
-// The next bid of each bid's client.
-pub(crate) const LINKS: usize = 96;
-// By slot, the client's first bid.
-pub(crate) const FIRSTS: usize = 144;
-// By slot, the ceiling of the clients left.
-pub(crate) const CEILINGS: usize = 152;
-// By slot, the client's largest weight.
-pub(crate) const LARGEST: usize = 159;
-// The end of the array.
-pub(crate) const END: usize = 166;
+pub(crate) const ASKED: usize = 56;
+// By slot, how many bids its row has.
+pub(crate) const COUNTS: usize = 112;
+// The end of the rows.
+pub(crate) const ROWS_END: usize = 119;
+// How many sets of clients there are, and the set of all.
+pub(crate) const SETS: usize = 64;
+
+pub(crate) const ALL: usize = 63;

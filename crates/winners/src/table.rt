@@ -1,7 +1,7 @@
 // v and σ of every set of a list of clients: each set is weighed once.
-use crate::array;
 use crate::lists;
-use crate::places::END;
+use crate::pass;
+use crate::places::ALL;
 use crate::values;
 use book::Book;
 ghost use mathlib.Core.Path.{_≡_};
@@ -38,11 +38,10 @@ pub fn surpluses_of(book: Book, clients: [u8; 6], count: usize) -> SigmaTable
     if !lists::is_rising(clients, count, book.n as usize) {
         return refused(16);
     }
-    let mut looks = [0u64; END];
-    let used = array::prepare(book, &mut looks);
-    let value = values::value_by(0, used, &mut looks);
+    let values = pass::weigh_all(book, 0);
+    let value = values[ALL];
     let discards = lists::discards(clients, count);
-    let sigma = values::sigma_by(value, discards, numbers::sets_end(count), used, &mut looks);
+    let sigma = values::sigma_by(value, discards, numbers::sets_end(count), &values);
     SigmaTable {
         number: 0,
         value,

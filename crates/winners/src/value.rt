@@ -1,7 +1,6 @@
 // The greatest value with clients discarded: the book's own number, 16, and the value.
-use crate::array;
-use crate::places::END;
-use crate::values;
+use crate::pass;
+use crate::places::ALL;
 use book::Book;
 ghost use mathlib.Core.Path.{_≡_};
 ghost use Rattle.book.specs.Layout.{book-in};
@@ -33,11 +32,10 @@ pub fn greatest_of(book: Book, discard: u8) -> Worth
     if 0 < (discard >> book.n) {
         return refused(16);
     }
-    let mut looks = [0u64; END];
-    let used = array::prepare(book, &mut looks);
+    let values = pass::weigh_all(book, discard);
     Worth {
         number: 0,
-        value: values::value_by(discard, used, &mut looks) as u32,
+        value: values[ALL] as u32,
     }
 }
 

@@ -1,9 +1,9 @@
-// What the judging layer asks: whether bids are a combination of greatest value, and then v and σ of every set of them. No set is weighed
-// before they are, and v is found once.
-use crate::array;
+// What the judging layer asks: whether bids are a combination of greatest value, and then v and σ of every set of them. One pass finds the
+// values of all sets of clients, once the bids are a combination.
 use crate::choice;
 use crate::lists;
-use crate::places::END;
+use crate::pass;
+use crate::places::ALL;
 use crate::values;
 use book::Book;
 ghost use mathlib.Core.Path.{_≡_};
@@ -44,15 +44,14 @@ pub fn weigh(book: Book, bids: [u8; 6], count: usize) -> Weighed
         return refused(8);
     }
     let worth = choice::value_of(book, bids, count);
-    let mut looks = [0u64; END];
-    let used = array::prepare(book, &mut looks);
-    let value = values::value_by(0, used, &mut looks);
+    let values = pass::weigh_all(book, 0);
+    let value = values[ALL];
     if worth != value {
         return refused(9);
     }
     let clients = choice::owners_of(book, bids, count);
     let discards = lists::discards(clients, count);
-    let sigma = values::sigma_by(value, discards, numbers::sets_end(count), used, &mut looks);
+    let sigma = values::sigma_by(value, discards, numbers::sets_end(count), &values);
     Weighed {
         number: 0,
         value,

@@ -1,8 +1,7 @@
--- `lists::discards` meets its contract. The loop keeps the bytes of the sets of the clients passed. Assumes nothing.
+-- `lists::discards` meets its contract. The loop keeps the entries of the sets of the clients passed. Assumes nothing.
 use borrow.Author.Needs.{needs}
 use mathlib.Core.Path.{_≡_}
 use Prim.Native.Nat.{_-_, _≤_}
-use native.Mathlib.Omega.{arith}
 use native.Mathlib.Nat.{le-antisymm}
 use lib.ListN.{length, getD}
 use Rattle.winners.proofs.Picks.{listed-range}
@@ -49,6 +48,9 @@ returns c =
     bytes-done (s .args .t1) (s .args .count) (s .pre) (l .inv .1) (l .j) (l .discards) (le-antisymm (l .inv .0) (c .loop-test .left))
     (l .inv .3)
 
+sub-double : tie.Need-sub-double Inv-loop μ-loop
+sub-double c = client (c .before) .1
+
 pub discards-spec : {M : Type 1} → statement M
 discards-spec =
     tie.close
@@ -58,8 +60,8 @@ discards-spec =
     loop-holds
     (λ c. search needs)
     (λ c. search needs)
-    (λ c. client (c .before) .0)
-    (λ c. omega (arith, client (c .before) .1))
+    sub-double
+    (λ c. search needs)
     double-requires
     (λ c. search needs)
     (λ c. search needs)

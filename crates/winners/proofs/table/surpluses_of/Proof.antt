@@ -11,7 +11,7 @@ use Rattle.winners.specs.ClientLists.{Rising-list}
 use Rattle.winners.specs.Surpluses.{list-good}
 use Rattle.winners.proofs.HeldBids.{clients-are}
 use Rattle.winners.proofs.Refusals.{refusal-none}
-use Rattle.winners.proofs.SetValues.{table-done}
+use Rattle.winners.proofs.SetValues.{all-value, discards-few, table-done}
 use Rattle.winners.proofs.SigmaAnswers.{good-listed, surpluses-refused, surpluses-none, surpluses-found}
 use Rattle.winners.proofs.table.surpluses_of.Statement.{statement}
 use Rattle.winners.proofs.table.surpluses_of.Tie as tie
@@ -44,27 +44,34 @@ returns-2 c =
     rw (c .refused2 .ensures .0, c .refused2 .ensures .1, c .refused2 .ensures .2)
     (surpluses-none _ _ _ _ (none (test .before .before)) (sym (tested test) ∙ not-true _ (c .before .if2 .taken)))
 
+weigh-all-requires : tie.Need-weigh-all-requires
+weigh-all-requires c κs = none (c .before .before .before)
+
+discards-requires : tie.Need-discards-requires
+discards-requires c κs = listed (c .before)
+
+-- the end of the sets
+ended : (c : tie.After-sets-end) → c .sets-end .result ≡ 2 ^ c .before .before .before .before .before .before .before .before .args .count
+ended c = c .sets-end .ensures .0 ∙ ap (λ (n : ℕ). 2 ^ n) (min-eq-left (listed (c .before .before .before) .few))
+
 sigma-by-requires : tie.Need-sigma-by-requires
 sigma-by-requires c κs =
-    let ended = c .before in
-    let found = ended .before .before in (
-      (_, found .value-by .ensures _ (found .before .before .prepare .ensures) .readied),
-      (ended .sets-end .ensures .1, ended .sets-end .ensures .2),
+    let sets = c .before in (
+      sets .sets-end .ensures .1,
+      sets .sets-end .ensures .2,
+      discards-few _ (sets .before .discards .result) _ _ (sets .before .discards .ensures) (ended sets),
     )
 
 returns-3 : tie.Need-returns-3
 returns-3 c =
-    let ended = c .before .before in
-    let discards = ended .before in
-    let found = discards .before in
-    let prepared = found .before .before .prepare .ensures in
-    let test = found .before .before .before .before in
+    let sets = c .before .before in
+    let found = sets .before .before in
+    let test = found .before in
     let yes = none (test .before .before .before) in
-    let value = found .value-by .ensures _ prepared in
-    let sets = ended .sets-end .ensures .0 ∙ ap (λ (n : ℕ). 2 ^ n) (min-eq-left (listed test .few)) in
-    surpluses-found _ _ _ _ yes (held-shaped _) (listed test .few) (good test) _ _ (value .greatest-is)
-    (table-done _ _ _ _ _ _ _ (listed test) (discards .discards .ensures) sets (value .greatest-is)
-    (c .sigma-by .ensures _ (value .readied)))
+    let all = all-value _ (sound-held _ yes) 0 _ (found .weigh-all .ensures) in
+    surpluses-found _ _ _ _ yes (held-shaped _) (listed test .few) (good test) _ _ all
+    (table-done _ _ _ _ _ _ _ _ (sound-held _ yes) (sets .before .discards .ensures) (ended sets) all (found .weigh-all .ensures)
+    (c .sigma-by .ensures))
 
 pub surpluses-of-spec : {M : Type 1} → statement M
 surpluses-of-spec =
@@ -78,9 +85,9 @@ surpluses-of-spec =
     (λ c κs. search needs)
     (λ c κs. search needs)
     returns-2
-    (λ c κs. none (c .before .before .before .before))
-    (λ c κs. (_, c .before .prepare .ensures))
-    (λ c κs. listed (c .before .before .before .before))
+    weigh-all-requires
+    (λ c. search needs)
+    discards-requires
     (λ c κs. search needs)
     sigma-by-requires
     returns-3)

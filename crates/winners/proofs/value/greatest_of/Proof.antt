@@ -3,9 +3,10 @@ use borrow.Author.Needs.{needs}
 use mathlib.Core.Path.{_≡_, sym}
 use native.Mathlib.Omega.{arith}
 use Rattle.book.specs.Value.{sound-number}
-use Rattle.book.proofs.Held.{counts-held, held-shaped}
+use Rattle.book.proofs.Held.{counts-held, held-shaped, sound-held}
 use Rattle.winners.proofs.HeldBids.{clients-are}
 use Rattle.winners.proofs.Refusals.{refusal-none}
+use Rattle.winners.proofs.SetValues.{all-value, all-few}
 use Rattle.winners.proofs.WorthAnswers.{worth-refused, worth-past, worth-found}
 use Rattle.winners.proofs.value.greatest_of.Statement.{statement}
 use Rattle.winners.proofs.value.greatest_of.Tie as tie
@@ -26,15 +27,17 @@ returns-2 c =
     let yes = none (c .before .before .before) in
     rw (c .refused2 .ensures .0, c .refused2 .ensures .1) (worth-past _ _ _ yes _ (sym (clients-are _ yes)) (c .before .if2 .taken))
 
-cast : tie.Need-cast-t12
-cast c = omega (arith, c .value-by .ensures _ (c .before .before .prepare .ensures) .few)
+cast-t12 : tie.Need-cast-t12
+cast-t12 c = omega (arith, all-few _ (sound-held _ (none (c .before .before .before))) _ _ (c .weigh-all .ensures))
 
 returns-3 : tie.Need-returns-3
 returns-3 c =
-    let made = c .before .before in
-    let yes = none (made .before .before .before .before) in
-    worth-found _ _ _ yes (held-shaped _) _ _ (sym (clients-are _ yes)) (made .before .before .if2 .left)
-    (c .value-by .ensures _ (made .prepare .ensures) .greatest-is)
+    let yes = none (c .before .before .before) in
+    worth-found _ _ _ yes (held-shaped _) _ _ (sym (clients-are _ yes)) (c .before .if2 .left)
+    (all-value _ (sound-held _ yes) _ _ (c .weigh-all .ensures))
+
+weigh-all-requires : tie.Need-weigh-all-requires
+weigh-all-requires c κs = none (c .before .before)
 
 pub greatest-of-spec : {M : Type 1} → statement M
 greatest-of-spec =
@@ -47,7 +50,7 @@ greatest-of-spec =
     shr-if2
     (λ c κs. search needs)
     returns-2
-    (λ c κs. none (c .before .before .before))
-    (λ c κs. (_, c .before .prepare .ensures))
-    cast
+    weigh-all-requires
+    (λ c. search needs)
+    cast-t12
     returns-3)

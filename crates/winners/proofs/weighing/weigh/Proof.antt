@@ -6,15 +6,16 @@ use mathlib.Core.Bool.{true}
 use mathlib.Core.List.{List}
 use Prim.Native.Nat.{ℕ, _^_, _≤_}
 use native.Mathlib.Nat.{min-eq-left}
-use lib.ListN.{length, take}
+use lib.ListN.{length, getD, take}
 use Rattle.book.specs.Value.{book-of, sound-number}
 use Rattle.book.proofs.Held.{held-shaped, sound-held}
 use Rattle.winners.specs.ClientLists.{Rising-list}
+use Rattle.winners.specs.Greatest.{greatest}
 use Rattle.winners.specs.Surpluses.{surplus-table}
 use Rattle.winners.specs.Weighed.{choice-good}
 use Rattle.winners.proofs.Owners.{owners-take, owners-listed}
 use Rattle.winners.proofs.Refusals.{refusal-none}
-use Rattle.winners.proofs.SetValues.{table-done}
+use Rattle.winners.proofs.SetValues.{all-value, discards-few, table-done}
 use Rattle.winners.proofs.WeighedAnswers.{chosen-bids, weighed-refused, weighed-none, weighed-less, weighed-found}
 use Rattle.winners.proofs.weighing.weigh.Statement.{statement}
 use Rattle.winners.proofs.weighing.weigh.Tie as tie
@@ -46,22 +47,25 @@ returns-2 c =
     weighed-none _ (held-shaped _) _ _ _ _ (none (test .before)) (sym (test .is-choice .ensures) ∙ not-true _ (c .before .if2 .taken))
     (record { number-is = z .0; value = z .1; clients = z .2; sigma = z .3 })
 
+-- the value of all clients
+all : (c : tie.After-weigh-all) → getD (c .weigh-all .result) 63 0
+    ≡ greatest (book-of (c .before .before .before .before .before .before .args .book)) 0
+all c = all-value _ (sound-held _ (none (c .before .before .before .before))) 0 _ (c .weigh-all .ensures)
+
 returns-3 : tie.Need-returns-3
 returns-3 c =
     let z = c .refused3 .ensures in
     let found = c .before .before in
-    let prepared = found .before .before in
-    let worth = prepared .before .before in
-    let v = found .value-by .ensures _ (prepared .prepare .ensures) .greatest-is in
+    let worth = found .before in
     weighed-less _ (held-shaped _) _ _ _ _ (none (worth .before .before .before)) (good (worth .before))
-    (λ e. c .before .if3 .taken (worth .value-of .ensures ∙ e ∙ sym v))
+    (λ e. c .before .if3 .taken (worth .value-of .ensures ∙ e ∙ sym (all found)))
     (record { number-is = z .0; value = z .1; clients = z .2; sigma = z .3 })
 
 listed : (c : tie.After-owners-of)
-    → let a = c .before .before .before .before .before .before .before .before .before .before .before .args in
+    → let a = c .before .before .before .before .before .before .before .before .args in
     Rising-list (c .owners-of .result) (a .count)
 listed c =
-    let chosen = c .before .before .before .before .before .before .before in
+    let chosen = c .before .before .before .before in
     let start = chosen .before .before .before .before in
     let a = start .args in
     let is = chosen-bids _ (held-shaped _) _ _ (good chosen) in
@@ -69,33 +73,48 @@ listed c =
     (owners-listed (book-of (a .book)) (a .bids) (a .count) (is .few) (six-bids start) (sound-held _ (none (chosen .before .before)))
     (is .combination) (is .rising))
 
+value-of-requires : tie.Need-value-of-requires
+value-of-requires c κs = few c
+
+weigh-all-requires : tie.Need-weigh-all-requires
+weigh-all-requires c κs = none (c .before .before .before)
+
+owners-of-requires : tie.Need-owners-of-requires
+owners-of-requires c κs = few (c .before .before .before)
+
+discards-requires : tie.Need-discards-requires
+discards-requires c κs = listed c
+
+-- the end of the sets
+ended : (c : tie.After-sets-end)
+    → c .sets-end .result ≡ 2 ^ c .before .before .before .before .before .before .before .before .before .before .args .count
+ended c = c .sets-end .ensures .0 ∙ ap (λ (n : ℕ). 2 ^ n) (min-eq-left (few (c .before .before .before .before .before .before)))
+
 sigma-by-requires : tie.Need-sigma-by-requires
 sigma-by-requires c κs =
-    let ended = c .before in
-    let found = ended .before .before .before .before in (
-      (_, found .value-by .ensures _ (found .before .before .prepare .ensures) .readied),
-      (ended .sets-end .ensures .1, ended .sets-end .ensures .2),
+    let sets = c .before in (
+      sets .sets-end .ensures .1,
+      sets .sets-end .ensures .2,
+      discards-few _ (sets .before .discards .result) _ _ (sets .before .discards .ensures) (ended sets),
     )
 
 returns-4 : tie.Need-returns-4
 returns-4 c =
-    let ended = c .before .before in
-    let discards = ended .before in
+    let sets = c .before .before in
+    let discards = sets .before in
     let owners = discards .before in
     let found = owners .before .before in
-    let prepared = found .before .before in
-    let worth = prepared .before .before in
+    let worth = found .before in
     let chosen = worth .before in
     let start = chosen .before .before .before .before in
     let a = start .args in
-    let value = found .value-by .ensures _ (prepared .prepare .ensures) in
-    let sets = ended .sets-end .ensures .0 ∙ ap (λ (n : ℕ). 2 ^ n) (min-eq-left (few chosen)) in
+    let sound = none (chosen .before .before) in
     let cut = ap (λ (cs : List ℕ). take (a .count) cs) (owners .owners-of .ensures)
     ∙ owners-take (book-of (a .book)) (a .bids) (a .count) (few chosen) (six-bids start) in
-    weighed-found _ (held-shaped _) _ _ _ _ (none (chosen .before .before)) (good chosen)
-    (sym (worth .value-of .ensures) ∙ owners .before .if3 .left ∙ value .greatest-is) refl (value .greatest-is) (owners .owners-of .ensures)
-    (table-done _ _ _ _ _ _ _ (listed owners) (discards .discards .ensures) sets (value .greatest-is)
-    (c .sigma-by .ensures _ (value .readied))
+    weighed-found _ (held-shaped _) _ _ _ _ sound (good chosen)
+    (sym (worth .value-of .ensures) ∙ owners .before .if3 .left ∙ all found) refl (all found) (owners .owners-of .ensures)
+    (table-done _ _ _ _ _ _ _ _ (sound-held _ sound) (discards .discards .ensures) (ended sets) (all found) (found .weigh-all .ensures)
+    (c .sigma-by .ensures)
     ∙ ap (λ (cs : List ℕ). surplus-table (book-of (a .book)) cs (a .count)) cut)
 
 pub weigh-spec : {M : Type 1} → statement M
@@ -106,16 +125,16 @@ weigh-spec =
     (λ c. search needs)
     (λ c κs. search needs)
     returns
-    (λ c κs. none c)
+    (λ c κs. search needs)
     (λ c κs. search needs)
     returns-2
-    (λ c κs. few c)
-    (λ c κs. none (c .before .before .before .before))
-    (λ c κs. (_, c .before .prepare .ensures))
+    value-of-requires
+    weigh-all-requires
+    (λ c. search needs)
     (λ c κs. search needs)
     returns-3
-    (λ c κs. few (c .before .before .before .before .before .before))
-    (λ c κs. listed c)
+    owners-of-requires
+    discards-requires
     (λ c κs. search needs)
     sigma-by-requires
     returns-4)

@@ -1,0 +1,203 @@
+-- The steps of the pass over sets: a set's floor, clients without a bid, and its value by the split. Cited by the proofs of src/pass.rt.
+-- Assumes nothing.
+use mathlib.Core.Path.{_≡_, refl, sym, ap, ap₂, fun-ext, _∙_}
+use mathlib.Core.Bool.{Bool, true, false, cond}
+use mathlib.Core.List.{List, [], _∷_}
+use mathlib.Core.Logic.{_⊎_, inl, inr, ⊎-elim}
+use Prim.Native.Nat.{ℕ, suc, _+_, _-_, _*_, _^_, _≤_, _<_, max}
+use native.Mathlib.Decide.{ℕ-discrete}
+use native.Mathlib.Omega.{arith}
+use lib.Bits.{bitAnd}
+use lib.Dec.{eqb, leb, ltb}
+use lib.ListN.{length, getD, set, replicate, length-replicate}
+use borrow.Author.Tests.{leb-true, leb-false, ltb-true, ltb-false}
+use lib.Pow.{pow-pos, pow-mono}
+use Rattle.sets.specs.Sets.{has, set-of}
+use Rattle.sets.proofs.Members.{set-of-lt}
+use Rattle.sets.proofs.Filled.{filled-next, zeros-at}
+use Rattle.market.specs.Market.{Market, fits, less}
+use Rattle.market.specs.Members.{more, reach, leasts, trimmed, without}
+use Rattle.market.proofs.Bools.{either}
+use Rattle.market.proofs.Adding.{more-length, more-at, fits-length}
+use Rattle.market.proofs.Hours.{fits-at, fits-if}
+use Rattle.market.proofs.Choose.{choose-attained}
+use Rattle.market.proofs.Reach.{reach-without}
+use Rattle.market.proofs.Trimmed.{full-reaches}
+use Rattle.market.proofs.Split.{split-value, split-floor}
+use Rattle.winners.specs.ClientSets.{clients-in, Highest}
+use Rattle.winners.specs.Full.{Tail, one, next, Ceilings, Searchable, Searched}
+use Rattle.winners.specs.Passes.{Floor-to, Laid-out, Values-to}
+use Rattle.winners.specs.Taken.{Room}
+use Rattle.winners.proofs.ClientSets.{clients-none, clients-first, clients-without, clients-drop, others-less, reach-held, has-there}
+use Rattle.winners.proofs.Searching.{clients-few}
+use Rattle.winners.proofs.Taking.{more-fits}
+
+-- A SET'S FLOOR
+pub floor-none : (set : ℕ) (values : List ℕ) → Floor-to 0 set values 0
+floor-none set values = record { covers = λ j l. absurd (omega arith); there = inl refl }
+
+pub floor-next : (n set : ℕ) (values : List ℕ) (floor v now : ℕ) → v ≡ cond (has set n) (getD values (set - 2 ^ n) 0) 0 → now ≡ max floor v
+    → Floor-to n set values floor → Floor-to (n + 1) set values now
+floor-next n set values floor v now ev en h = record {
+  covers = λ j l y. elim (ℕ-discrete j n) [
+    | yes e ↦ let here : v ≡ getD values (set - 2 ^ j) 0 = rw e (ev ∙ (rw (rw e at y))) in omega arith
+    | no e ↦ omega (arith, h .covers j (omega arith) y)
+  ];
+  there = ⊎-elim (λ (y : leb v floor ≡ true). kept (omega (arith, leb-true v floor y)) (h .there))
+      (λ (z : leb v floor ≡ false). raised (leb-false v floor z) (either (has set n))) (either (leb v floor));
+}
+  where
+    kept : now ≡ floor → (floor ≡ 0) ⊎ ((j : ℕ) × (j < n) × (has set j ≡ true) × (floor ≡ getD values (set - 2 ^ j) 0))
+        → (now ≡ 0) ⊎ ((j : ℕ) × (j < n + 1) × (has set j ≡ true) × (now ≡ getD values (set - 2 ^ j) 0))
+    kept e (inl z) = inl (e ∙ z)
+    kept e (inr (j, l, y, z)) = inr (j, omega arith, y, e ∙ z)
+
+    raised : floor < v → (has set n ≡ true) ⊎ (has set n ≡ false)
+        → (now ≡ 0) ⊎ ((j : ℕ) × (j < n + 1) × (has set j ≡ true) × (now ≡ getD values (set - 2 ^ j) 0))
+    raised l (inl y) = let here : v ≡ getD values (set - 2 ^ n) 0 = ev ∙ (rw y) in inr (n, omega arith, y, omega arith)
+    raised l (inr z) = let none : v ≡ 0 = ev ∙ (rw z) in absurd (omega arith)
+
+-- THE CLIENTS THAT HAVE A BID, from the last slot down
+pub held-next : (q : ℕ → Bool) (t held now : ℕ) (b : Bool) → 0 < t → t ≤ 6 → held ≡ set-of (6 - t) (λ i. q (t + 1 + i)) → b ≡ q t
+    → now ≡ cond b 1 0 + 2 * held → now ≡ set-of (6 - (t - 1)) (λ i. q (t - 1 + 1 + i))
+unfolding set-of
+held-next q t held now b some few eh eb en =
+    let longer : 6 - (t - 1) ≡ suc (6 - t) = omega arith in
+    let here : t - 1 + 1 + 0 ≡ t = omega arith in
+    let later : (i : ℕ) → t - 1 + 1 + suc i ≡ t + 1 + i = λ i. omega arith in
+    rw longer (en ∙ ap₂ (λ (x : Bool) (y : ℕ). cond x 1 0 + 2 * y) (eb ∙ ap q (sym here))
+    (eh ∙ ap (λ (f : ℕ → Bool). set-of (6 - t) f) (fun-ext (λ i. ap q (sym (later i))))))
+
+pub held-few : (t : ℕ) (q : ℕ → Bool) → set-of (6 - t) q < 64
+held-few t q = omega (arith, set-of-lt (6 - t) q, pow-mono {i = 6 - t} {j = 6} (omega arith))
+
+-- HOW MUCH THERE IS TO REACH
+reach-most : (m : Market) (wt : ℕ → ℕ) (a : ℕ) → ((i : ℕ) → wt i ≤ a) → (cs ls : List ℕ) → reach m wt cs ls ≤ a * length cs
+unfolding reach
+reach-most m wt a h [] ls = omega arith
+reach-most m wt a h (c ∷ cs) ls =
+    ⊎-elim
+    (λ e. omega (arith, e, reach-most m wt a h cs ls))
+    (λ (i, l, t, e). omega (arith, e, h (suc i), reach-most m wt a h cs (less ls (m .hours (suc i)))))
+    (choose-attained m wt c ls (reach m wt cs ls) (λ rs. reach m wt cs rs) (m .bids))
+
+reach-few : (m : Market) (wt : ℕ → ℕ) → ((i : ℕ) → wt i ≤ 9007199254740992) → (s : ℕ) (ls : List ℕ)
+    → reach m wt (clients-in 6 s) ls ≤ 54043195528445952
+reach-few m wt h s ls = omega (arith, reach-most m wt 9007199254740992 h (clients-in 6 s) ls, clients-few 6 s)
+
+-- THE CLIENTS LEFT
+tail-less : {s r : ℕ} → Tail s r → r < s
+tail-less (one {s = s} {t = t} h) = others-less s t h
+tail-less (next {s = s} {t = t} h tail) = omega (arith, tail-less tail, others-less s t h)
+
+-- what fits with the least hours of more clients fits with those of fewer
+fewer-fits : (ys xs zs ls : List ℕ) → fits (more ys (more xs zs)) ls ≡ true → fits (more ys zs) ls ≡ true
+fewer-fits ys xs zs ls t =
+    fits-if (more ys zs) ls (simp more-length (omega (arith, simp more-length at (fits-length _ _ t))))
+    (λ k l. simp more-at (omega (arith, simp more-at at (fits-at _ _ t k))))
+
+first-room : (least : ℕ → List ℕ) (s t : ℕ) → Highest s t → (ys ls : List ℕ) → fits (more ys (leasts least (clients-in 6 s))) ls ≡ true
+    → fits (more ys (leasts least (clients-in 6 (s - 2 ^ (t - 1))))) ls ≡ true
+unfolding leasts
+first-room least s t h ys ls f = fewer-fits ys (least (7 - t)) _ ls (rw (clients-first s t h) at f)
+
+tail-room : (least : ℕ → List ℕ) {s r : ℕ} → Tail s r → (ys ls : List ℕ) → fits (more ys (leasts least (clients-in 6 s))) ls ≡ true
+    → fits (more ys (leasts least (clients-in 6 r))) ls ≡ true
+tail-room least (one {s = s} {t = t} h) ys ls f = first-room least s t h ys ls f
+tail-room least (next {s = s} {t = t} h tail) ys ls f = tail-room least tail ys ls (first-room least s t h ys ls f)
+
+-- THE VALUE OF A SET
+module _ (set used held : ℕ) (rows values : List ℕ) (m : Market) (wt : ℕ → ℕ) (k : ℕ) (supply : List ℕ) (least : ℕ → List ℕ)
+    (laid : Laid-out m wt k least held rows) (room : Room k supply (leasts least (clients-in 6 set)) used)
+    (known : Values-to m wt supply set values) where
+  abbrev taken : List ℕ
+  taken = leasts least (clients-in 6 set)
+
+  -- known values of the clients left are ceilings
+  ceilings : fits taken supply ≡ true → Ceilings (trimmed least m) wt values set (less supply taken)
+  ceilings t r tail ys f =
+      rw (known .below r (tail-less tail))
+      (full-reaches m wt least (laid .low) (clients-in 6 r) ys supply
+      (tail-room least tail ys supply (sym (more-fits ys taken supply t) ∙ f)))
+
+  -- clients without a bid are left out
+  pub value-left : (some : ℕ) → some ≡ bitAnd set held → some < set → getD values some 0 ≡ reach m wt (clients-in 6 set) supply
+  value-left some e l =
+      known .below some l ∙ ap (λ (s : ℕ). reach m wt (clients-in 6 s) supply) e ∙ sym (reach-held m wt held (laid .idle) set supply)
+
+  pub values-few : (r : ℕ) → getD values r 0 ≤ 54043195528445952
+  values-few r = ⊎-elim
+      (λ (y : ltb r set ≡ true). rw (known .below r (ltb-true r set y)) (reach-few m wt (laid .weights-few) r supply))
+      (λ (z : ltb r set ≡ false). omega (arith, known .above r (ltb-false r set z)))
+      (either (ltb r set))
+
+  module _ (floor : ℕ) (f : Floor-to 6 set values floor) where
+    covers : (d : ℕ) → d < length (clients-in 6 set) → reach m wt (without d (clients-in 6 set)) supply ≤ floor
+    covers d l =
+        let (j, b, h, e) = clients-without 6 set d l in
+        let there = has-there set j h in
+        omega (
+          arith,
+          ap (λ (cs : List ℕ). reach m wt cs supply) e,
+          known .below (set - 2 ^ j) (omega (arith, pow-pos j)),
+          f .covers j b h,
+        )
+
+    reached : floor ≤ reach m wt (clients-in 6 set) supply
+    reached = ⊎-elim
+        (λ (z : floor ≡ 0). omega arith)
+        (λ (j, b, h, v). let (d, e) = clients-drop 6 set j b h in
+        let there = has-there set j h in
+        omega (
+          arith,
+          v,
+          known .below (set - 2 ^ j) (omega (arith, pow-pos j)),
+          ap (λ (cs : List ℕ). reach m wt cs supply) e,
+          reach-without m wt d (clients-in 6 set) supply,
+        ))
+        (f .there)
+
+    -- where the least hours do not fit, the floor
+    pub value-floor : eqb (bitAnd used 72058693566333184) 0 ≡ false → floor ≡ reach m wt (clients-in 6 set) supply
+    value-floor n = sym (split-floor m wt least (laid .low) (clients-in 6 set) supply floor covers reached (sym (room .clear) ∙ n))
+
+    -- where they do, by the split
+    module _ (y : eqb (bitAnd used 72058693566333184) 0 ≡ true) where
+      pub value-searched : (v : ℕ) → Searched set used floor rows values v → v ≡ reach m wt (clients-in 6 set) supply
+      value-searched v s =
+          let t = sym (room .clear) ∙ y in
+          s .is (trimmed least m) wt k (less supply taken) (laid .trims) (room .left t) (ceilings t)
+          ∙ sym (split-value m wt least (laid .low) (clients-in 6 set) supply floor covers reached t)
+
+      pub value-searchable : set < 64 → Searchable set used floor rows values
+      value-searchable few =
+          let t = sym (room .clear) ∙ y in
+          record {
+            m = trimmed least m;
+            wt = wt;
+            k = k;
+            hours = less supply taken;
+            held = laid .trims;
+            left = room .left t;
+            ceilings = ceilings t;
+            weights-few = laid .weights-few;
+            set-few = few;
+            values-few = values-few;
+            floor-few = omega (arith, reached, reach-few m wt (laid .weights-few) set supply);
+          }
+
+-- SET AFTER SET
+pub values-first : (m : Market) (wt : ℕ → ℕ) (supply : List ℕ) → Values-to m wt supply 1 (replicate 64 0)
+unfolding reach
+values-first m wt supply = record {
+  long = length-replicate {A = ℕ} 64 0;
+  below = λ s l. let z : s ≡ 0 = omega arith in rw (z, zeros-at 64 0, clients-none);
+  above = λ s l. zeros-at 64 s;
+}
+
+pub values-next : (m : Market) (wt : ℕ → ℕ) (supply : List ℕ) (n v : ℕ) (values : List ℕ) → n < 64
+    → v ≡ reach m wt (clients-in 6 n) supply → Values-to m wt supply n values → Values-to m wt supply (n + 1) (set values n v)
+values-next m wt supply n v values l e h =
+    let next = filled-next 64 (λ s. reach m wt (clients-in 6 s) supply) n values v l e
+    (record { long = h .long; below = h .below; above = h .above }) in
+    record { long = next .long; below = next .below; above = next .above }

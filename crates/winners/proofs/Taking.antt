@@ -1,0 +1,113 @@
+-- Least hours added up from set to set: whether those of one client more fit the supply, and what they leave. Cited by the proofs of
+-- src/taken.rt. Assumes nothing.
+use mathlib.Core.Path.{_≡_, refl, sym, ap, _∙_}
+use mathlib.Core.Bool.{true, false, cond, true≢false}
+use mathlib.Core.List.{List, [], _∷_}
+use mathlib.Core.Logic.{⊎-elim}
+use Prim.Native.Nat.{ℕ, _+_, _-_, _^_, _≤_, _<_}
+use native.Mathlib.Nat.{add-zero}
+use native.Mathlib.Decide.{ℕ-discrete}
+use native.Mathlib.Omega.{arith}
+use lib.Bits.{bitAnd}
+use lib.Dec.{eqb}
+use lib.ListN.{length, getD, set}
+use lib.Seq.{ext-getD, getD-set-same, getD-set-other}
+use Rattle.market.specs.Market.{fits, less}
+use Rattle.market.specs.Members.{more, leasts}
+use Rattle.market.proofs.Bools.{either}
+use Rattle.market.proofs.Hours.{less-length, less-at, fits-at, fits-if}
+use Rattle.market.proofs.Adding.{more-length, more-at, fits-length}
+use Rattle.winners.specs.ClientSets.{Highest}
+use Rattle.winners.specs.Lanes.{packed, Asked, Left}
+use Rattle.winners.specs.Taken.{Room, Leasts-held, Taken-to}
+use Rattle.winners.proofs.ClientSets.{clients-none, clients-first, others-less}
+use Rattle.winners.proofs.LaneSums.{fit-says, used-most}
+use Rattle.winners.proofs.LanesLeft.{fit-here, left-after}
+
+ruleset by-kind = (more-at, less-at)
+
+ruleset kinds = (more-length, less-length)
+
+-- HOURS ONE AFTER THE OTHER
+module _ (xs hs ls : List ℕ) where
+  -- what fits together fits by itself
+  more-second : fits (more xs hs) ls ≡ true → fits hs ls ≡ true
+  more-second t =
+      fits-if hs ls (omega (arith, simp kinds at (fits-length _ _ t))) (λ k l. omega (arith, simp by-kind at (fits-at _ _ t k)))
+
+  pub more-fits : fits hs ls ≡ true → fits xs (less ls hs) ≡ fits (more xs hs) ls
+  more-fits t =
+      ⊎-elim
+      (λ (y : fits xs (less ls hs) ≡ true). y ∙ sym (fits-if (more xs hs) ls
+      (simp kinds (omega (arith, fits-length _ _ t, simp kinds at (fits-length _ _ y))))
+      (λ k l. simp by-kind (omega (arith, fits-at _ _ t k, simp by-kind at (fits-at _ _ y k))))))
+      (λ (n : fits xs (less ls hs) ≡ false). ⊎-elim
+      (λ (z : fits (more xs hs) ls ≡ true). absurd (true≢false (sym (fits-if xs (less ls hs)
+      (simp kinds (omega (arith, simp kinds at (fits-length _ _ z))))
+      (λ k l. simp by-kind (omega (arith, simp by-kind at (fits-at _ _ z k))))) ∙ n)))
+      (λ (z : fits (more xs hs) ls ≡ false). n ∙ sym z)
+      (either (fits (more xs hs) ls)))
+      (either (fits xs (less ls hs)))
+
+  more-less : less ls (more xs hs) ≡ less (less ls hs) xs
+  more-less = ext-getD 0 _ _ (simp kinds) (λ k l. simp by-kind (omega arith))
+
+less-none : (ls : List ℕ) → less ls [] ≡ ls
+unfolding less
+less-none [] = refl
+less-none (l ∷ ls) = refl
+
+-- nothing is taken yet
+room-none : (k : ℕ) (supply : List ℕ) (used : ℕ) → Left k supply used → Room k supply [] used
+unfolding fits packed
+room-none k supply used h = record {
+  clear = ap (λ (x : ℕ). eqb (bitAnd x 72058693566333184) 0) (h .lanes ∙ sym (add-zero _))
+      ∙ fit-says [] supply (omega arith) (omega (arith, h .kinds, h .kinds-few)) (λ i. omega arith) (h .bytes);
+  left = λ _. rw (less-none supply) h;
+}
+
+-- the least hours of one client more
+room-next : (k : ℕ) (supply xs hs : List ℕ) (before least after : ℕ) → Asked k xs least
+    → after ≡ cond (eqb (bitAnd before 72058693566333184) 0) (before + least) before → Room k supply hs before
+    → Room k supply (more xs hs) after
+room-next k supply xs hs before least after a e r =
+    ⊎-elim
+    (λ (y : fits hs supply ≡ true). let left = r .left y in
+    let now : after ≡ before + least = e ∙ (rw (r .clear, y)) in
+    let same = more-fits xs hs supply y in
+    rw now (record {
+      clear = fit-here k xs (less supply hs) least before a left ∙ same;
+      left = λ t. rw (more-less xs hs supply) (left-after k xs (less supply hs) least before a left (same ∙ t));
+    }))
+    (λ (n : fits hs supply ≡ false). let now : after ≡ before = e ∙ (rw (r .clear, n)) in
+    let none : fits (more xs hs) supply ≡ false = never n in
+    rw now (record { clear = r .clear ∙ n ∙ sym none; left = λ t. absurd (true≢false (sym t ∙ none)) }))
+    (either (fits hs supply))
+  where
+    never : fits hs supply ≡ false → fits (more xs hs) supply ≡ false
+    never n =
+        ⊎-elim (λ (z : fits (more xs hs) supply ≡ true). absurd (true≢false (sym (more-second xs hs supply z) ∙ n)))
+        (λ (z : fits (more xs hs) supply ≡ false). z) (either (fits (more xs hs) supply))
+
+-- where the guards are clear the number is in lanes
+pub room-few : (k : ℕ) (supply hs : List ℕ) (x : ℕ) → Room k supply hs x → eqb (bitAnd x 72058693566333184) 0 ≡ true → x ≤ 71777214294589695
+room-few k supply hs x r t = omega (arith, r .left (sym (r .clear) ∙ t) .lanes, used-most (less supply hs))
+
+-- SET AFTER SET
+module _ (k : ℕ) (supply : List ℕ) (least : ℕ → List ℕ) where
+  pub taken-first : (used : ℕ) (xs : List ℕ) → 0 < length xs → Left k supply used → Taken-to k supply least 1 (set xs 0 used)
+  unfolding leasts
+  taken-first used xs l h s b =
+      let z : s ≡ 0 = omega arith in
+      rw (z, getD-set-same xs 0 used 0 l, clients-none) (room-none k supply used h)
+
+  pub taken-next : (s t after : ℕ) (numbers xs : List ℕ) → s < length xs → Highest s t → Leasts-held k least numbers
+      → after ≡ cond (eqb (bitAnd (getD xs (s - 2 ^ (t - 1)) 0) 72058693566333184) 0)
+      (getD xs (s - 2 ^ (t - 1)) 0 + getD numbers t 0) (getD xs (s - 2 ^ (t - 1)) 0)
+      → Taken-to k supply least s xs → Taken-to k supply least (s + 1) (set xs s after)
+  unfolding leasts
+  taken-next s t after numbers xs l h a e f j b = elim (ℕ-discrete j s) [
+    | yes q ↦ rw (q, getD-set-same xs s after 0 l, clients-first s t h)
+        (room-next k supply (least (7 - t)) _ _ _ after (a t (h .low) (h .high)) e (f (s - 2 ^ (t - 1)) (others-less s t h)))
+    | no q ↦ rw (getD-set-other xs s j after 0 q) (f j (omega arith))
+  ]
