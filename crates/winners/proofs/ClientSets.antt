@@ -1,18 +1,20 @@
 -- Sets of clients by slots: the first client and the others, the set without one of its clients, and clients that add nothing left out.
 -- Cited by the proofs of src/slots.rt, src/taken.rt, src/search.rt and src/values.rt. Assumes nothing.
 use mathlib.Core.Path.{_≡_, refl, sym, ap, ap₂, fun-ext, _∙_}
-use mathlib.Core.Bool.{Bool, true, false, _&&_}
+use mathlib.Core.Bool.{Bool, true, false, _&&_, cond}
 use mathlib.Core.List.{List, [], _∷_}
 use mathlib.Core.Logic.{_≢_, ⊎-elim}
-use Prim.Native.Nat.{ℕ, zero, suc, _+_, _-_, _/_, _%_, _^_, _≤_, _<_, min}
-use native.Mathlib.Nat.{le-refl, pow-suc}
+use Prim.Native.Nat.{ℕ, zero, suc, _+_, _-_, _*_, _/_, _%_, _^_, _≤_, _<_, min}
+use native.Mathlib.Numerals.{one-add}
+use native.Mathlib.Nat.{mod-lt, mod-eq-of-lt, le-refl, pow-suc}
 use native.Mathlib.Decide.{ℕ-discrete, decLt}
 use native.Mathlib.Omega.{arith}
 use borrow.Author.Tests.{eqb-true, eq-eqb, ne-eqb}
 use lib.Bits.{bitAnd, and-shr, and-step}
 use lib.Dec.{eqb}
 use lib.ListN.{length}
-use lib.Pow.{pow-pos, pow-mono}
+use lib.Count.{onesIn, ones, ones-cat}
+use lib.Pow.{pow-pos, pow-mono, mod-pow-add}
 use Rattle.sets.specs.Sets.{has}
 use Rattle.sets.proofs.Members.{and-mask, has-low, has-half, has-above, has-last, has-same}
 use Rattle.market.specs.Market.{Market}
@@ -198,6 +200,29 @@ clients-kept keep s h = rw (
   h 5 (omega arith) (omega arith),
   h 6 (omega arith) (omega arith),
 )
+
+-- HOW MANY THERE ARE
+bit-size : (x n m : ℕ) → x < 2 → m ≡ cond (eqb x 1) (suc n) n → m ≡ ones x + n
+unfolding ones onesIn
+bit-size zero n m l e = omega arith
+bit-size (suc zero) n m l e = omega arith
+bit-size (suc (suc x)) n m l e = absurd (omega arith)
+
+longer : (b : Bool) (x : ℕ) (xs : List ℕ) → length (cond b (x ∷ xs) xs) ≡ cond b (suc (length xs)) (length xs)
+longer true x xs = refl
+longer false x xs = refl
+
+size-low : (t s : ℕ) → length (clients-in t s) ≡ ones (s % 2 ^ t)
+unfolding clients-in has ones onesIn
+size-low zero s = let none : s % 2 ^ 0 ≡ 0 = omega arith in rw none
+size-low (suc t) s =
+    let parts : s % 2 ^ suc t ≡ s / 2 ^ t % 2 * 2 ^ t + s % 2 ^ t = rw (one-add t) at (mod-pow-add s 1 t) in
+    bit-size (s / 2 ^ t % 2) _ _ (omega arith) (longer (has s t) (6 - t) (clients-in t s))
+    ∙ ap (λ (n : ℕ). ones (s / 2 ^ t % 2) + n) (size-low t s)
+    ∙ sym (ap ones parts ∙ ones-cat t (s / 2 ^ t % 2) (s % 2 ^ t) (mod-lt s (pow-pos t)))
+
+pub size-is : (s : ℕ) → s < 64 → ones s ≡ length (clients-in 6 s)
+size-is s l = sym (size-low 6 s ∙ ap ones (mod-eq-of-lt l))
 
 -- THE HIGHEST SLOT
 pub highest-is : (set r j : ℕ) → set < 64 → r ≡ suc j → 2 ^ j ≤ set → set < 2 ^ suc j → Highest set r

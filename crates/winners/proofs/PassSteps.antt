@@ -169,8 +169,8 @@ module _ (set used held : ℕ) (rows values : List ℕ) (m : Market) (wt : ℕ �
           s .is (trimmed least m) wt k (less supply taken) (laid .trims) (room .left t) (ceilings t)
           ∙ sym (split-value m wt least (laid .low) (clients-in 6 set) supply floor covers reached t)
 
-      pub value-searchable : set < 64 → Searchable set used floor rows values
-      value-searchable few =
+      pub value-searchable : (size : ℕ) → size ≡ length (clients-in 6 set) → set < 64 → Searchable size set used floor rows values
+      value-searchable size count few =
           let t = sym (room .clear) ∙ y in
           record {
             m = trimmed least m;
@@ -181,6 +181,7 @@ module _ (set used held : ℕ) (rows values : List ℕ) (m : Market) (wt : ℕ �
             left = room .left t;
             ceilings = ceilings t;
             weights-few = laid .weights-few;
+            clients-left = count;
             set-few = few;
             values-few = values-few;
             floor-few = omega (arith, reached, reach-few m wt (laid .weights-few) set supply);

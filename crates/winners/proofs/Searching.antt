@@ -50,9 +50,18 @@ full-few : (m : Market) (wt : ℕ → ℕ) → ((i : ℕ) → wt i ≤ 900719925
 full-few m wt h s ls = omega (arith, full-most m wt 9007199254740992 h (clients-in 6 s) ls, clients-few 6 s)
 
 -- nobody is left
-pub search-none : (set used floor : ℕ) (rows values : List ℕ) → set ≡ 0 → Searched set used floor rows values floor
+pub search-none : (set used floor : ℕ) (rows values : List ℕ) → 0 ≡ length (clients-in 6 set) → Searched set used floor rows values floor
 unfolding full
-search-none set used floor rows values e = record { is = λ m wt k ls h l c. rw (e, clients-none) (omega arith) }
+search-none set used floor rows values e = record { is = λ m wt k ls h l c. nobody (clients-in 6 set) e m wt ls }
+  where
+    nobody : (cs : List ℕ) → 0 ≡ length cs → (m : Market) (wt : ℕ → ℕ) (ls : List ℕ) → floor ≡ max floor (full m wt cs ls)
+    nobody [] e m wt ls = omega arith
+    nobody (c ∷ cs) e m wt ls = absurd (omega arith)
+
+-- where somebody is left the set's number is not 0
+pub some-left : (ahead set : ℕ) → ahead ≡ length (clients-in 6 set) → (ahead ≡ 0 → ⊥) → 1 ≤ set
+some-left ahead zero e n = absurd (n (e ∙ ap length clients-none))
+some-left ahead (suc set) e n = omega arith
 
 -- fewer hours have the same ceilings, and so have the clients after the first
 ceilings-after : (m : Market) (wt : ℕ → ℕ) (values : List ℕ) (s t : ℕ) (ls hs : List ℕ) → Highest s t → Ceilings m wt values s ls
@@ -139,7 +148,7 @@ module _ (set slot used floor : ℕ) (rows values : List ℕ) (hi : Highest set 
   }
 
   -- NUMBERS STAY FEW
-  module _ (w : Searchable set used floor rows values) where
+  module _ (ahead : ℕ) (w : Searchable ahead set used floor rows values) where
     pub top-few : (top d : ℕ) → Here top d → top ≤ 54043195528445952
     top-few top d f =
         omega (
@@ -171,7 +180,7 @@ module _ (set slot used floor : ℕ) (rows values : List ℕ) (hi : Highest set 
 
       pub searchable-next : (base : ℕ) → base ≤ 54043195528445952
           → eqb (bitAnd (used + getD rows (56 + (8 * slot + d)) 0) 72058693566333184) 0 ≡ true
-          → Searchable rest (used + getD rows (56 + (8 * slot + d)) 0) base rows values
+          → Searchable (ahead - 1) rest (used + getD rows (56 + (8 * slot + d)) 0) base rows values
       searchable-next base few y =
           let (row, r) = w .held slot (hi .low) (hi .high) in
           let ask = r .asks d (omega (arith, r .count)) in
@@ -186,6 +195,7 @@ module _ (set slot used floor : ℕ) (rows values : List ℕ) (hi : Highest set 
             left = left-after (w .k) hours (w .hours) _ used ask (w .left) fit;
             ceilings = ceilings-after (w .m) (w .wt) values set slot (w .hours) hours hi (w .ceilings);
             weights-few = w .weights-few;
+            clients-left = omega (arith, w .clients-left, ap length (clients-first set slot hi));
             set-few = omega (arith, w .set-few, others-less set slot hi);
             values-few = w .values-few;
             floor-few = few;

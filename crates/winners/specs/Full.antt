@@ -4,7 +4,7 @@ use mathlib.Core.Path.{_≡_}
 use mathlib.Core.Bool.{true}
 use mathlib.Core.List.{List}
 use Prim.Native.Nat.{ℕ, _-_, _^_, _≤_, _<_, max}
-use lib.ListN.{getD}
+use lib.ListN.{length, getD}
 use Rattle.market.specs.Market.{Market, fits}
 use Rattle.market.specs.Members.{full}
 use Rattle.winners.specs.ClientSets.{clients-in, Highest}
@@ -28,8 +28,8 @@ abbrev pub Ceilings : (m : Market) (wt : ℕ → ℕ) (values : List ℕ) (set :
 Ceilings m wt values s ls =
     (r : ℕ) → Tail s r → (hours : List ℕ) → fits hours ls ≡ true → full m wt (clients-in 6 r) hours ≤ getD values r 0
 
--- some market whose rows and ceilings are there, and numbers few enough to be added up
-pub record Searchable (set used floor : ℕ) (rows values : List ℕ) : Type 0 where
+-- some market whose rows and ceilings are there, the number of the set's clients, and numbers few enough to be added up
+pub record Searchable (ahead set used floor : ℕ) (rows values : List ℕ) : Type 0 where
   pub m : Market
   pub wt : ℕ → ℕ
   pub k : ℕ
@@ -38,6 +38,7 @@ pub record Searchable (set used floor : ℕ) (rows values : List ℕ) : Type 0 w
   pub left : Left k hours used
   pub ceilings : Ceilings m wt values set hours
   pub weights-few : (i : ℕ) → wt i ≤ weight-most
+  pub clients-left : ahead ≡ length (clients-in 6 set)
   pub set-few : set < 64
   pub values-few : (r : ℕ) → getD values r 0 ≤ found-most
   pub floor-few : floor ≤ found-most

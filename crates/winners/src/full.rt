@@ -10,18 +10,20 @@ use crate::places::SETS;
 use crate::slots;
 ghost use Rattle.winners.specs.Full.{Searchable, Searched};
 
-// The larger of the floor and of that value, in whatever market the rows lay out. By set, the values of the clients left are ceilings.
+// The larger of the floor and of that value for a set of clients (`ahead` of them), in whatever market the rows lay out. By set, the values
+// of the clients left are ceilings.
 pub(crate) fn search_full(
+    ahead: usize,
     set: usize,
     used: u64,
     floor: u64,
     rows: &[u64; ROWS_END],
     values: &[u64; SETS],
 ) -> u64
-    requires { ⌜ Searchable set used floor (now rows) (now values) ⌝ }
+    requires { ⌜ Searchable ahead set used floor (now rows) (now values) ⌝ }
     ensures { λ r. ⌜ Searched set used floor (now (rows .entry)) (now (values .entry)) r ⌝ }
 {
-    if set == 0 {
+    if ahead == 0 {
         return floor;
     }
     let slot = slots::highest(set);
@@ -38,7 +40,7 @@ pub(crate) fn search_full(
         let after = used + rows[ASKED + (ROW * slot + d)];
         if lanes::guards_set(after) == 0 {
             let base = numbers::excess(top, weight);
-            let more = search_full(rest, after, base, rows, values);
+            let more = search_full(ahead - 1, rest, after, base, rows, values);
             top = weight + more;
         }
         d += 1;

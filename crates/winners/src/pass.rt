@@ -7,6 +7,7 @@ use crate::places::ROWS_END;
 use crate::places::SETS;
 use crate::places::SLOTS;
 use crate::rows;
+use crate::slots;
 use crate::taken;
 use crate::trims;
 use book::Book;
@@ -75,7 +76,7 @@ fn value_of(set: usize, used: u64, held: usize, rows: &[u64; ROWS_END], values: 
     if 0 < lanes::guards_set(used) {
         return floor;
     }
-    full::search_full(set, used, floor, rows, values)
+    full::search_full(slots::size(set), set, used, floor, rows, values)
 }
 
 // The values of all sets.

@@ -1,11 +1,11 @@
--- `full::search_full` meets its contract. The measure is the set's number; the loop keeps what the row's places from its own on reach, in
--- every market that the rows lay out. Assumes nothing.
+-- `full::search_full` meets its contract. The measure is the number of clients left; the loop keeps what the row's places from its own on
+-- reach, in every market that the rows lay out. Assumes nothing.
 use borrow.Author.Needs.{needs}
 use borrow.Author.Tests.{eq-eqb, ne-eqb}
 use mathlib.Core.Path.{_≡_, refl, sym, _∙_}
 use mathlib.Core.Bool.{true, false}
 use mathlib.Core.Logic.{⊎-elim}
-use Prim.Native.Nat.{ℕ, _+_, _*_, _-_, _<_}
+use Prim.Native.Nat.{ℕ, _+_, _*_, _-_, _≤_, _<_}
 use native.Mathlib.Omega.{arith}
 use lib.Bits.{bitAnd}
 use lib.Dec.{eqb}
@@ -13,7 +13,7 @@ use lib.ListN.{getD}
 use Rattle.winners.specs.ClientSets.{Highest}
 use Rattle.winners.specs.Full.{Searchable}
 use Rattle.winners.proofs.ClientSets.{others-less}
-use Rattle.winners.proofs.Searching.{Found, search-none, found-first, found-falls, found-left, found-taken, found-end}
+use Rattle.winners.proofs.Searching.{Found, search-none, some-left, found-first, found-falls, found-left, found-taken, found-end}
 use Rattle.winners.proofs.Searching.{top-few, place-few, weight-few, hours-few, searchable-next}
 use borrow.Fn.Kinds.{In}
 use borrow.Fn.PlainCycle.{Measures, is, falls, and}
@@ -51,17 +51,19 @@ told t = (
 )
 
 abbrev Inv-loop : lts.InvT-loop
-Inv-loop set used floor rows values slot rest ceiling count top₀ d₀ top d =
+Inv-loop ahead set used floor rows values slot rest ceiling count top₀ d₀ top d =
     (hi : Highest set slot) × Found set slot used floor rows values hi top d
 
 abbrev μ-loop : lts.MeasureT-loop
-μ-loop set used floor rows values slot rest ceiling count top₀ d₀ top d = count - d
+μ-loop ahead set used floor rows values slot rest ceiling count top₀ d₀ top d = count - d
 
 returns : (t : ℕ) → lts.Need-returns (told t) (at-turn t) search-full.Post Inv-loop μ-loop
-returns t c = search-none _ _ _ _ _ (c .if1 .taken)
+returns t c = search-none _ _ _ _ _ (sym (c .if1 .taken) ∙ c .before .pre .1 .clients-left)
 
 highest-requires : (t : ℕ) → lts.Need-highest-requires (told t) (at-turn t) search-full.Post Inv-loop μ-loop
-highest-requires t c κs = (omega (arith, c .if1 .left), c .before .pre .1 .set-few)
+highest-requires t c κs =
+    let w = c .before .pre .1 in
+    (some-left (c .before .args .ahead) _ (w .clients-left) (c .if1 .left), w .set-few)
 
 ceiling-place : (t : ℕ) → lts.Need-element-copy-out-ceiling (told t) (at-turn t) search-full.Post Inv-loop μ-loop
 ceiling-place t c =
@@ -80,15 +82,19 @@ module _ (t : ℕ) (c : Turn t) where
       (c .before .before .before .before .before .highest .result)
   slot = c .before .loop .inv .0
 
+  -- somebody is left
+  somebody : 1 ≤ c .before .before .before .before .before .before .before .args .ahead
+  somebody = omega (arith, c .before .before .before .before .before .before .if1 .left)
+
   able : let a = c .before .before .before .before .before .before .before .args in
-      Searchable (a .set) (a .used) (a .floor) (a .rows .now) (a .values .now)
+      Searchable (a .ahead) (a .set) (a .used) (a .floor) (a .rows .now) (a .values .now)
   able = c .before .before .before .before .before .before .before .pre .1
 
   abbrev d : ℕ
   d = c .before .loop .d
 
   near : d < 8
-  near = place-few _ _ _ _ _ _ slot able d (c .loop-test .taken)
+  near = place-few _ _ _ _ _ _ slot _ able d (c .loop-test .taken)
 
   found : let a = c .before .before .before .before .before .before .before .args in
       Found (a .set) (c .before .before .before .before .before .highest .result) (a .used) (a .floor) (a .rows .now) (a .values .now) slot
@@ -100,7 +106,7 @@ add-if2 t c =
     let turn = c .before in
     omega (
       arith,
-      weight-few _ _ _ _ _ _ (slot t turn) (able t turn) (d t turn) (turn .loop-test .taken),
+      weight-few _ _ _ _ _ _ (slot t turn) _ (able t turn) (d t turn) (turn .loop-test .taken),
       able t turn .values-few (turn .before .before .before .before .others .result),
     )
 
@@ -113,7 +119,7 @@ returns-2 t c =
 add-after-3 : (t : ℕ) → lts.Need-add-after-3 (told t) (at-turn t) search-full.Post Inv-loop μ-loop
 add-after-3 t c =
     let turn = c .before .before .before in
-    omega (arith, hours-few _ _ _ _ _ _ (slot t turn) (able t turn) (d t turn) (turn .loop-test .taken))
+    omega (arith, hours-few _ _ _ _ _ _ (slot t turn) _ (able t turn) (d t turn) (turn .loop-test .taken))
 
 -- the guards are clear, or not
 module _ (t : ℕ) (c : lts.After-guards-set (told t) (at-turn t) search-full.Post Inv-loop μ-loop) where
@@ -135,9 +141,9 @@ search-full-requires t c κs =
     let turn = tested .before .before .before .before in
     let s = turn .before .before .before .before .before .before .before in
     let rest = turn .before .before .before .before .others .ensures in
-    let top = top-few _ _ _ _ _ _ (slot t turn) (able t turn) _ _ (found t turn) in (
-      rw rest (omega (arith, others-less _ _ (slot t turn), s .pre .0)),
-      rw rest (searchable-next _ _ _ _ _ _ (slot t turn) (able t turn) (d t turn) (turn .loop-test .taken) _
+    let top = top-few _ _ _ _ _ _ (slot t turn) _ (able t turn) _ _ (found t turn) in (
+      omega (arith, s .pre .0, somebody t turn),
+      rw rest (searchable-next _ _ _ _ _ _ (slot t turn) _ (able t turn) (d t turn) (turn .loop-test .taken) _
           (omega (arith, c .excess .ensures, top)) (clear t tested (c .before .if3 .taken))),
     )
 
@@ -160,7 +166,7 @@ module _ (t : ℕ) (c : lts.After-search-full (told t) (at-turn t) search-full.P
 add-top : (t : ℕ) → lts.Need-add-top (told t) (at-turn t) search-full.Post Inv-loop μ-loop
 add-top t c =
     let turn = c .before .before .before .before .before .before .before in
-    omega (arith, top-few _ _ _ _ _ _ (slot t turn) (able t turn) _ _ (taken t c))
+    omega (arith, top-few _ _ _ _ _ _ (slot t turn) _ (able t turn) _ _ (taken t c))
 
 loop-again : (t : ℕ) → lts.Need-loop-again (told t) (at-turn t) search-full.Post Inv-loop μ-loop
 loop-again t c =
@@ -208,6 +214,7 @@ pub +search-full-spec : {M : Type 1} → statement M
     (add-after-3 t)
     (λ c κs. search needs)
     (λ c κs. search needs)
+    (λ c. somebody t (c .before .before .before .before .before .before))
     (search-full-requires t)
     (add-top t)
     (λ c. omega (arith, near t (c .before .before .before .before .before)))

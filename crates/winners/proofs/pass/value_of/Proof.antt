@@ -41,17 +41,21 @@ clear c = eq-eqb (bitAnd (c .before .before .before .before .args .used) 7205869
 
 search-full-requires : tie.Need-search-full-requires
 search-full-requires c κs =
-    let w = c .before .before .before .before .pre in
+    let tested = c .before in
+    let w = tested .before .before .before .before .pre in
     value-searchable _ _ _ _ _ (w .m) (w .wt) (w .k) (w .supply) (w .least) (w .laid) (w .room) (w .known)
-    _ (c .before .before .floor-of .ensures)
-    (clear c) (w .few)
+    _ (tested .before .before .floor-of .ensures) (clear tested) _ (c .size .ensures) (w .few)
+
+size-requires : tie.Need-size-requires
+size-requires c κs = c .before .before .before .before .pre .few
 
 returns-3 : tie.Need-returns-3
 returns-3 c =
-    let floor = c .before .before .before .floor-of in
+    let tested = c .before .before in
+    let floor = tested .before .before .floor-of in
     record {
       is = λ m wt k supply least laid room known.
-          value-searched _ _ _ _ _ m wt k supply least laid room known _ (floor .ensures) (clear (c .before)) _ (c .search-full .ensures);
+          value-searched _ _ _ _ _ m wt k supply least laid room known _ (floor .ensures) (clear tested) _ (c .search-full .ensures);
     }
 
 pub value-of-spec : {M : Type 1} → statement M
@@ -64,5 +68,6 @@ value-of-spec =
     floor-of-requires
     (λ c κs. search needs)
     returns-2
+    size-requires
     search-full-requires
     returns-3)
