@@ -2,6 +2,7 @@
 
 /// A book: as many kinds, clients and bids as the counts say, and zeros past them. Clients and bids are numbered from 0 here, but `client`
 /// holds clients' numbers as the book has them, from 1. A cap of 0 is a withdrawn client's.
+#[derive(Clone, Copy)]
 pub struct Book {
     pub kinds: usize,
     pub supply: [u8; 4],
@@ -109,6 +110,15 @@ pub fn read(bytes: &[u8]) -> Result<Book, u8> {
     }
     if !book.reserves_met() {
         return Err(5);
+    }
+    Ok(book)
+}
+
+/// The same for callers with a discard byte, which question 16 is about.
+pub fn read_with(bytes: &[u8], discard: u8) -> Result<Book, u8> {
+    let book = read(bytes)?;
+    if 0 < discard >> book.clients {
+        return Err(16);
     }
     Ok(book)
 }

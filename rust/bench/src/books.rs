@@ -2,6 +2,9 @@
 
 use generate::{full, write};
 
+/// How many books a turn goes through: so many that a processor cannot learn their branches by heart.
+pub const MANY: u64 = 64;
+
 /// A kind of full book.
 #[derive(Clone, Copy)]
 pub struct Kind {
@@ -9,21 +12,18 @@ pub struct Kind {
     pub name: &'static str,
     /// A seed, found by trying, for which six clients win; where no bid fits none can.
     pub six_winners: u64,
-    /// How many books a turn goes through: so many that a processor cannot learn their branches by heart, which takes more where a book
-    /// takes little time.
-    pub many: u64,
 }
 
-const fn kind(place: usize, six_winners: u64, many: u64) -> Kind {
+const fn kind(place: usize, six_winners: u64) -> Kind {
     let of = &full::KINDS[place];
-    Kind { of, name: of.name, six_winners, many }
+    Kind { of, name: of.name, six_winners }
 }
 
-pub const LOOSE: Kind = kind(0, 1, 64);
-pub const TIGHT: Kind = kind(3, 64129, 16);
+pub const LOOSE: Kind = kind(0, 1);
+pub const TIGHT: Kind = kind(3, 64129);
 
 pub const KINDS: [Kind; 7] =
-    [LOOSE, kind(1, 19, 16), kind(2, 1, 16), TIGHT, kind(4, 142, 16), kind(5, 1, 64), kind(6, 1, 64)];
+    [LOOSE, kind(1, 19), kind(2, 1), TIGHT, kind(4, 142), kind(5, 1), kind(6, 1)];
 
 impl Kind {
     pub fn book(&self, seed: u64) -> Vec<u8> {

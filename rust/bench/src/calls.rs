@@ -2,45 +2,43 @@
 //! numbered otherwise, so that a processor cannot learn one call's branches by heart.
 
 use crate::book::{self, fits, rest};
-use crate::books::Kind;
-use crate::search::greatest;
+use crate::books::{Kind, MANY, TIGHT};
+use crate::search::{greatest, values};
 use generate::{acceptable_sheet, write, Rng};
 use reference::{Book, Sheet, Weights};
-
-/// The greatest value of the clients from this one on with the hours left, and the bids that come to it, numbered from 1.
-fn best(book: &book::Book, client: usize, left: [u8; 4]) -> (u64, Vec<usize>) {
-    if book.clients < client {
-        return (0, Vec::new());
-    }
-    let mut top = best(book, client + 1, left);
-    for bid in 0..book.bids {
-        if usize::from(book.client[bid]) == client && book.stays(client, 0) && fits(book.hours[bid], left) {
-            let (more, mut bids) = best(book, client + 1, rest(book.hours[bid], left));
-            bids.insert(0, bid + 1);
-            top = top.max((u64::from(book.amount[bid]) + more, bids));
-        }
-    }
-    top
-}
 
 /// The book as what is measured reads it.
 fn as_read(book: &Book) -> book::Book {
     book::read(&write::book(book)).unwrap_or_else(|number| panic!("a book is refused: {number}"))
 }
 
-/// Bids of greatest value, by rising client.
+/// Bids of greatest value, by rising client and numbered from 1: of each client in turn a bid that still comes to the greatest value with
+/// those taken before and the best of the clients after it, if there is one.
 fn winners(book: &Book) -> Vec<usize> {
-    let read = as_read(book);
-    best(&read, 1, read.supply).1
+    let mut left = as_read(book);
+    let mut winners = Vec::new();
+    for client in 1..=left.clients {
+        let [with, without] = [(1 << (client - 1)) - 1, (1 << client) - 1];
+        let goal = greatest(&left, with);
+        let after = |bid: usize| book::Book { supply: rest(left.hours[bid], left.supply), ..left };
+        let may = |bid: usize| usize::from(left.client[bid]) == client && left.stays(client, 0) && fits(left.hours[bid], left.supply);
+        let wins = |&bid: &usize| may(bid) && u64::from(left.amount[bid]) + greatest(&after(bid), without) == goal;
+        if let Some(bid) = (0..left.bids).find(wins) {
+            winners.push(bid + 1);
+            left = after(bid);
+        }
+    }
+    winners
 }
 
 /// v, σ and ρ, by the search in Rust.
 fn weights(book: &Book, winners: &[usize]) -> Weights {
     let read = as_read(book);
-    let v = greatest(&read, 0);
+    let values = values(&read, 0);
+    let v = values.without(0);
     let client = |k: usize| book.bids[winners[k] - 1].client - 1;
     let discard = |set: usize| (0..winners.len()).fold(0, |byte, k| byte | (set >> k & 1) << client(k));
-    let sigma = |set: usize| i128::from(v - greatest(&read, discard(set) as u8));
+    let sigma = |set: usize| i128::from(v - values.without(discard(set) as u8));
     let rho = |&bid: &usize| book.bids[bid - 1].amount - book.reserves(&book.bids[bid - 1]);
     Weights {
         v: i128::from(v),
@@ -84,6 +82,13 @@ impl Call {
     pub fn of_kind(kind: &Kind) -> Call {
         let bytes = kind.book(kind.six_winners);
         Call::over(Book::read(&bytes).expect("the book can be read"))
+    }
+
+    /// Over full tight books with another supply, by which so many clients win.
+    pub fn of_supply(supply: i128, winners: usize) -> Vec<Call> {
+        let read = |seed| Book::read(&TIGHT.book(seed)).expect("the book can be read");
+        let calls = (1..).map(|seed| Call::over(Book { supply: vec![supply; 4], ..read(seed) }));
+        calls.filter(|call| call.sheet.winners.len() == winners).take(MANY as usize).collect()
     }
 
     /// The call over its book with clients and bids numbered otherwise, in so many ways.

@@ -10,20 +10,28 @@ mod damage;
 mod growth;
 mod judge;
 mod judging;
+mod lanes;
 mod plain;
 mod reader;
+mod rows;
 mod search;
+mod set_by_set;
 mod sheet;
+mod surpluses;
 mod timing;
 mod values;
+mod weighing;
+mod worst;
 
 #[cfg(test)]
 mod alike;
 
 /// The tables, by the names that pick some of them.
-const TABLES: [(&str, fn()); 5] = [
+const TABLES: [(&str, fn()); 7] = [
     ("values", values::table),
+    ("worst", worst::table),
     ("accepted", judging::accepted_table),
+    ("standing", judging::standing_table),
     ("refused", judging::refused_table),
     ("bids", growth::bids_table),
     ("winners", growth::winners_table),

@@ -1,133 +1,97 @@
-//! The same search as one would write it in Rust, with its bounds checks. Links, weights and hours are made once; then for each set its
-//! ceilings, and the search over the clients left, from a floor. Hours of up to four kinds are one number, a lane of 16 bits for each.
-//! Instead of the hours left there are those used, 255 less those left: a bid asks for more than is left exactly where a lane goes over
-//! 255, which sets its guard bit. One test tells whether a bid fits and can raise the best.
+//! The same search as one would write it in Rust, with its bounds checks: one pass over the sets of clients, from few to many. A set's
+//! value is that of the set without one of its clients, or that of the best combination with a bid of each. Sets are numbers, in which
+//! bit c - 1 is client c.
 
 use crate::book::{self, Book};
+use crate::lanes::{fits, used};
+use crate::rows::{rows, Row};
+use crate::surpluses::Surpluses;
 
-const NONE: usize = 48;
-const GUARDS: u64 = 0x0100_0100_0100_0100;
-/// Every lane at 255: nothing is left.
-const FULL: u64 = 0x00ff_00ff_00ff_00ff;
+const SETS: usize = 64;
+/// The set of all clients.
+const ALL: usize = SETS - 1;
 
-/// What the search looks up, whoever is discarded. Clients are numbered by how many there are from each to the sixth: the turns left.
-struct Lookups {
-    weights: [u64; 48],
-    hours: [u64; 48],
-    links: [usize; 56],
-    most: [u64; 7],
+/// The first client of a set, counted from 0, and the set without it.
+#[inline(always)]
+fn split(set: usize) -> (usize, usize) {
+    (set.trailing_zeros() as usize, set & (set - 1))
 }
 
-fn in_lanes(hours: [u8; 4]) -> u64 {
-    hours.iter().rev().fold(0, |lanes, &hours| lanes << 16 | u64::from(hours))
+/// The largest value without one of a set's clients.
+fn floor_of(set: usize, values: &[u64; SETS]) -> u64 {
+    let mut floor = 0;
+    let mut left = set;
+    while 0 < left {
+        let rest = left & (left - 1);
+        floor = floor.max(values[set - (left - rest)]);
+        left = rest;
+    }
+    floor
 }
 
-/// A bid that asks for more than there is goes to turn 0, which nobody has.
-fn look_up(book: &Book, used: u64) -> Lookups {
-    let mut l = Lookups { weights: [0; 48], hours: [0; 48], links: [NONE; 56], most: [0; 7] };
-    for i in (0..book.bids).rev() {
-        l.weights[i] = u64::from(book.amount[i]);
-        l.hours[i] = in_lanes(book.hours[i]);
-        let turn = if (used + l.hours[i]) & GUARDS == 0 { 7 - usize::from(book.client[i]) } else { 0 };
-        l.links[i] = l.links[48 + turn];
-        l.links[48 + turn] = i;
-        l.most[turn] = l.most[turn].max(l.weights[i]);
-    }
-    for (client, &cap) in book.caps[..book.clients].iter().enumerate() {
-        if cap == 0 {
-            l.most[6 - client] = 0;
-        }
-    }
-    l
-}
-
-/// By the clients left, the sum of the largest weights of those that stay.
-fn ceilings(discard: u8, most: &[u64; 7]) -> Tops {
-    let mut tops = [0; 7];
-    for turn in 1..7 {
-        let own = if (discard >> (6 - turn)) & 1 == 0 { most[turn] } else { 0 };
-        tops[turn] = tops[turn - 1] + own;
-    }
-    tops
-}
-
-type Tops = [u64; 7];
-
-fn search(l: &Lookups, tops: &Tops, ahead: usize, used: u64, floor: u64) -> u64 {
-    if tops[ahead] <= floor {
-        return floor;
-    }
-    let ceiling = tops[ahead - 1];
+/// The value of the best combination with a bid of each client of a set, or the floor where that is no less. The value of the clients still
+/// to come is a ceiling.
+fn search(rows: &[Row; 6], values: &[u64; SETS], set: usize, used: u64, floor: u64) -> u64 {
+    let (client, rest) = split(set);
+    let ceiling = values[rest];
     let mut top = floor;
-    let mut i = if ceiling < tops[ahead] { l.links[48 + ahead] } else { NONE };
-    while i < NONE {
-        let weight = l.weights[i];
-        let after = used + l.hours[i];
-        let short = u64::from(weight + ceiling <= top);
-        if (after & GUARDS) + short == 0 {
-            let more = search(l, tops, ahead - 1, after, top.saturating_sub(weight));
-            top = top.max(weight + more);
+    for bid in rows[client].bids() {
+        if bid.weight + ceiling <= top {
+            return top;
         }
-        i = l.links[i];
+        let after = used + bid.hours;
+        if fits(after) {
+            if rest == 0 {
+                return bid.weight;
+            }
+            top = bid.weight + search(rows, values, rest, after, top.saturating_sub(bid.weight));
+        }
     }
-    search(l, tops, ahead - 1, used, top)
+    top
 }
 
-/// The hours used before any bid is taken.
-fn used_first(book: &Book) -> u64 {
-    FULL - in_lanes(book.supply)
+/// The greatest value of each set of clients.
+pub struct Values([u64; SETS]);
+
+impl Values {
+    pub fn without(&self, discard: u8) -> u64 {
+        self.0[ALL - usize::from(discard)]
+    }
 }
 
-fn greatest_by(lookups: &Lookups, used: u64, discard: u8) -> u64 {
-    let tops = ceilings(discard, &lookups.most);
-    search(lookups, &tops, 6, used, 0)
+/// The values with clients discarded for good. Clients without a bid that can be taken are left out.
+pub fn values(book: &Book, discard: u8) -> Values {
+    let used = used(book.supply);
+    let rows = rows(book, used, discard);
+    let held = (0..6).fold(0, |set, client| set | usize::from(!rows[client].bids().is_empty()) << client);
+    let mut values = [0; SETS];
+    let mut taken = [used; SETS];
+    for set in 1..SETS {
+        if set & held < set {
+            values[set] = values[set & held];
+            continue;
+        }
+        let (client, rest) = split(set);
+        taken[set] = taken[rest] + if fits(taken[rest]) { rows[client].least } else { 0 };
+        let floor = floor_of(set, &values);
+        values[set] = if fits(taken[set]) { search(&rows, &values, set, taken[set], floor) } else { floor };
+    }
+    Values(values)
 }
 
 /// The greatest value with clients discarded.
 pub fn greatest(book: &Book, discard: u8) -> u64 {
-    let used = used_first(book);
-    greatest_by(&look_up(book, used), used, discard)
-}
-
-/// The greatest values with each of the sets of clients discarded, looked up once.
-pub fn greatest_of(book: &Book, discards: impl Iterator<Item = u8>) -> [u64; 64] {
-    let used = used_first(book);
-    let lookups = look_up(book, used);
-    let mut values = [0; 64];
-    for (value, discard) in values.iter_mut().zip(discards) {
-        *value = greatest_by(&lookups, used, discard);
-    }
-    values
-}
-
-/// The greatest value, and σ of each set of clients, by which it falls without them.
-pub struct Surpluses {
-    value: u64,
-    sigma: [u64; 64],
-}
-
-impl Surpluses {
-    pub fn of(values: [u64; 64]) -> Self {
-        Surpluses { value: values[0], sigma: values.map(|without| values[0] - without) }
-    }
-
-    /// The sum of all 64 greatest values.
-    pub fn sum(&self) -> u64 {
-        64 * self.value - self.sigma.iter().sum::<u64>()
-    }
+    values(book, discard).without(0)
 }
 
 /// The answer that ours gives, handed out as ours is: by a call.
 #[inline(never)]
 pub fn surpluses(book: &Book) -> Surpluses {
-    Surpluses::of(greatest_of(book, 0..64))
+    let values = values(book, 0);
+    Surpluses::of(std::array::from_fn(|discard| values.without(discard as u8)))
 }
 
 /// The greatest value of any bytes, as ours: questions 1 to 5 and 16 first.
 pub fn asked_value(bytes: &[u8], discard: u8) -> Result<u64, u8> {
-    let book = book::read(bytes)?;
-    if 0 < discard >> book.clients {
-        return Err(16);
-    }
-    Ok(greatest(&book, discard))
+    book::read_with(bytes, discard).map(|book| greatest(&book, discard))
 }

@@ -1,9 +1,9 @@
 //! The table of greatest values: all 64 of full books of each kind.
 
 use crate::book::{self, Book};
-use crate::books::{Kind, KINDS};
+use crate::books::{Kind, KINDS, MANY};
 use crate::timing::{work, Rounds, Work};
-use crate::{branch, copied, plain, search};
+use crate::{branch, copied, plain, search, set_by_set};
 use std::hint::black_box;
 
 /// How many books a turn goes through where a program takes much longer than ours.
@@ -31,18 +31,27 @@ pub fn asked(book: &[u8]) -> u64 {
     book::read(black_box(book)).map_or(0, |book| search::surpluses(&book).sum())
 }
 
-/// The same by our search put into Rust line by line, reading the book and putting questions 1 to 5 first.
-fn copied(book: &[u8]) -> u64 {
+/// The same by the old search.
+pub fn old_asked(book: &[u8]) -> u64 {
+    book::read(black_box(book)).map_or(0, |book| set_by_set::surpluses(&book).sum())
+}
+
+/// The same by our search put into Rust line by line.
+pub fn copied_asked(book: &[u8]) -> u64 {
     book::read(black_box(book)).map_or(0, |book| copied::surpluses(&book).sum())
 }
 
-/// The same one by one, by the proved library and by the search in Rust, with the questions put at each call.
+/// The same one by one, by the proved library and by both searches in Rust, with the questions put at each call.
 fn ours_one_by_one(book: &[u8]) -> u64 {
     all_sets(|discard| u64::from(certifier::greatest_value(black_box(book), discard).value))
 }
 
 fn asked_one_by_one(book: &[u8]) -> u64 {
     all_sets(|discard| search::asked_value(black_box(book), discard).unwrap_or(0))
+}
+
+fn old_asked_one_by_one(book: &[u8]) -> u64 {
+    all_sets(|discard| set_by_set::asked_value(black_box(book), discard).unwrap_or(0))
 }
 
 fn plainly(book: &Book) -> u64 {
@@ -73,9 +82,11 @@ const WAYS: &[Way] = &[
     OURS,
     |given| searched(&given.book),
     |given| asked(&given.bytes),
-    |given| copied(&given.bytes),
+    |given| old_asked(&given.bytes),
+    |given| copied_asked(&given.bytes),
     |given| ours_one_by_one(&given.bytes),
     |given| asked_one_by_one(&given.bytes),
+    |given| old_asked_one_by_one(&given.bytes),
 ];
 const SLOW: &[Way] = &[OURS, |given| plainly(&given.book), |given| by_branch(&given.book)];
 
@@ -108,7 +119,7 @@ impl Measured {
     /// Every way must answer alike.
     fn of(kind: Kind) -> Measured {
         let given = |count: u64| kind.books(count).into_iter().map(Given::of).collect();
-        let (many, few): (Vec<Given>, Vec<Given>) = (given(kind.many), given(FEW));
+        let (many, few): (Vec<Given>, Vec<Given>) = (given(MANY), given(FEW));
         assert_alike(kind.name, &many, WAYS);
         assert_alike(kind.name, &few, SLOW);
         Measured { kind, many, few, rounds_of_many: Rounds::default(), rounds_of_few: Rounds::default() }
@@ -120,20 +131,23 @@ impl Measured {
     }
 
     fn print(&self) {
-        let [search, asked, copied] = [1, 2, 3].map(|other| self.rounds_of_many.ratio(0, other));
-        let one_by_one = self.rounds_of_many.ratio(4, 5);
         let [plain, branch] = [1, 2].map(|other| self.rounds_of_few.ratio(0, other));
-        println!("{:22}{plain:>10.4}{branch:>8.2}{search:>8.2}{asked:>8.2}{one_by_one:>12.2}{copied:>14.2}", self.kind.name);
+        let [search, asked, old, copied] = [1, 2, 3, 4].map(|other| self.rounds_of_many.ratio(0, other));
+        let [single, single_old] = [6, 7].map(|other| self.rounds_of_many.ratio(5, other));
+        print!("{:22}{plain:>10.4}{branch:>8.2}{old:>8.2}", self.kind.name);
+        println!("{search:>8.2}{asked:>8.2}{copied:>14.2}{single_old:>10.2}{single:>8.2}");
     }
 }
 
 pub fn table() {
     println!("All 64 greatest values of full books, a book at a call: our time over that in Rust of the plain recursion, of a branch");
-    println!("and bound, and of the same search, without and with reading the book and questions 1 to 5, which ours does too; of one value at a");
-    println!("call, with the reading at each, over the same in Rust; and of all 64 over our search put into Rust line by line, with the reading.");
+    println!("and bound, of the old search, of the same search, without questions and asked, and of ours put into Rust line by line;");
+    println!("and of one value at a call, over the old search and over the same search. But for the first two, and the same search");
+    println!("once, all read the book and put questions 1 to 5 at each call, as ours does.");
     println!();
-    let [a, b, c, d, e, f] = ["plain", "branch", "search", "asked", "one by one", "line by line"];
-    println!("{:22}{a:>10}{b:>8}{c:>8}{d:>8}{e:>12}{f:>14}", "kind of book");
+    println!("{:22}{:>10}{:>8}{:>8}{:>16}{:>14}{:>18}", "", "", "", "", "the same search", "", "one by one");
+    let [a, b, c, d, e, f] = ["plain", "branch", "old", "", "asked", "line by line"];
+    println!("{:22}{a:>10}{b:>8}{c:>8}{d:>8}{e:>8}{f:>14}{c:>10}{:>8}", "kind of book", "same");
     let mut kinds = KINDS.map(Measured::of);
     for _ in 0..PASSES {
         kinds.iter_mut().for_each(Measured::go_on);
