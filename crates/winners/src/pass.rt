@@ -2,6 +2,7 @@
 // one of its clients, and of its best combination where nobody passes.
 use crate::full;
 use crate::lanes;
+use crate::places::CLIENTS;
 use crate::places::COUNTS;
 use crate::places::ROWS_END;
 use crate::places::SETS;
@@ -43,7 +44,7 @@ fn floor_of(set: usize, values: &[u64; SETS]) -> u64
 {
     let mut floor: u64 = 0;
     let mut j: usize = 0;
-    while j < 6 {
+    while j < CLIENTS {
         floor = numbers::larger(floor, value_without(set, j, values));
         j += 1;
     }
@@ -55,7 +56,7 @@ fn held_in(rows: &[u64; ROWS_END]) -> usize
     ensures { λ r. ⌜ r ≡ set-of 6 (λ j. ltb 0 (getD (now (rows .entry)) (counts-from + (1 + j)) 0)) ⌝ }
 {
     let mut held: u64 = 0;
-    let mut t: usize = 6;
+    let mut t: usize = CLIENTS;
     while 0 < t {
         held = numbers::share(0 < rows[COUNTS + t], 1) + 2 * held;
         t -= 1;

@@ -1,7 +1,9 @@
 // The places of what the search looks up. A client's slot is the number of clients from it on: 6 for client 1, 1 for client 6; slot 0 is
 // nobody's.
 
-// How many slots there are, with nobody's.
+// How many clients there are at the most, and slots with nobody's.
+pub(crate) const CLIENTS: usize = 6;
+
 pub(crate) const SLOTS: usize = 7;
 // How many bids a row has room for. Of each slot the weights of its row stand from the first place on.
 pub(crate) const ROW: usize = 8;

@@ -2,6 +2,7 @@
 // whatever bids are taken.
 use crate::lanes;
 use crate::places::ASKED;
+use crate::places::CLIENTS;
 use crate::places::COUNTS;
 use crate::places::ROW;
 use crate::places::ROWS_END;
@@ -71,9 +72,9 @@ pub(crate) fn settle_all(
     ensures { λ _. ⌜ (length (now (rows .exit)) ≡ rows-end) × (length (now (leasts .exit)) ≡ 7) ⌝ }
 {
     let mut t: usize = 1;
-    while t < 7 {
-        let out = (discard >> (6 - t)) & 1 == 1;
-        let least = settle(numbers::both(book::is_standing(book, 7 - t), !out), t, rows);
+    while t < SLOTS {
+        let out = (discard >> (CLIENTS - t)) & 1 == 1;
+        let least = settle(numbers::both(book::is_standing(book, SLOTS - t), !out), t, rows);
         leasts[t] = least;
         t += 1;
     }
