@@ -74,7 +74,11 @@ pub(crate) fn settle_all(
     let mut t: usize = 1;
     while t < SLOTS {
         let out = (discard >> (CLIENTS - t)) & 1 == 1;
-        let least = settle(numbers::both(book::is_standing(book, SLOTS - t), !out), t, rows);
+        let least = settle(
+            numbers::both(book::is_standing(book, SLOTS - t), !out),
+            t,
+            rows,
+        );
         leasts[t] = least;
         t += 1;
     }
