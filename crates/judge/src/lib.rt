@@ -24,8 +24,7 @@ pub fn judge_sheet(input: &[u8]) -> Prices
         return prices::refused(reading.number);
     }
     let from = reading.length as usize;
-    let book = reading.book;
-    chain::answer_over(book, &input[from..])
+    chain::answer_over(reading.book, &input[from..])
 }
 
 // Questions 2 to 5 of a book that is a value, then 6 to 15 of the bytes of a sheet.

@@ -16,13 +16,13 @@ returns c =
 
 answer-over-requires : tie.Need-answer-over-requires
 answer-over-requires c κs =
-    let past = c .before .before .before in
+    let past = c .before .before in
     let read = past .before .before in
     read-sound _ _ (read .read .ensures) (past .if1 .left)
 
 returns-2 : tie.Need-returns-2
 returns-2 c =
-    let past = c .before .before .before .before in
+    let past = c .before .before .before in
     let read = past .before .before in
     judgement _ (input-judgeable _) _
     (c .answer-over .ensures ∙ ap answer-of (read-call _ _ (read .read .ensures) (past .if1 .left)))
