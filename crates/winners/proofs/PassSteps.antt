@@ -7,7 +7,7 @@ use mathlib.Core.Logic.{_⊎_, inl, inr, ⊎-elim}
 use Prim.Native.Nat.{ℕ, suc, _+_, _-_, _*_, _^_, _≤_, _<_, max}
 use native.Mathlib.Decide.{ℕ-discrete}
 use native.Mathlib.Omega.{arith}
-use lib.Bits.{bitAnd}
+use lib.Bits.{bitAnd, and-zero-r}
 use lib.Dec.{eqb, leb, ltb}
 use lib.ListN.{length, getD, set, replicate, length-replicate}
 use borrow.Author.Tests.{leb-true, leb-false, ltb-true, ltb-false}
@@ -202,3 +202,14 @@ values-next m wt supply n v values l e h =
     let next = filled-next 64 (λ s. reach m wt (clients-in 6 s) supply) n values v l e
     (record { long = h .long; below = h .below; above = h .above }) in
     record { long = next .long; below = next .below; above = next .above }
+
+-- where nobody has a bid, every value is 0
+pub values-none : (m : Market) (wt : ℕ → ℕ) (k : ℕ) (supply : List ℕ) (least : ℕ → List ℕ) (held : ℕ) (rows : List ℕ) → held ≡ 0
+    → Laid-out m wt k least held rows → Values-to m wt supply 64 (replicate 64 0)
+unfolding reach
+values-none m wt k supply least held rows z laid = record {
+  long = length-replicate {A = ℕ} 64 0;
+  below = λ s l. zeros-at 64 s
+      ∙ sym (reach-held m wt held (laid .idle) s supply ∙ (rw (z, and-zero-r s, clients-none)));
+  above = λ s l. zeros-at 64 s;
+}

@@ -32,16 +32,20 @@ pub record Values-to (m : Market) (wt : ℕ → ℕ) (supply : List ℕ) (n : �
   pub below : (s : ℕ) → s < n → getD values s 0 ≡ reach m wt (clients-in 6 s) supply
   pub above : (s : ℕ) → n ≤ s → getD values s 0 ≡ 0
 
--- some market that is laid out, with a supply, whose values are there for the sets below one
-pub record Weighable (set used held : ℕ) (rows values : List ℕ) : Type 0 where
+-- some market that is laid out, and a supply
+pub record On-sale (held : ℕ) (rows : List ℕ) : Type 0 where
   pub m : Market
   pub wt : ℕ → ℕ
   pub k : ℕ
   pub supply : List ℕ
   pub least : ℕ → List ℕ
   pub laid : Laid-out m wt k least held rows
-  pub room : Room k supply (leasts least (clients-in 6 set)) used
-  pub known : Values-to m wt supply set values
+
+-- what the least hours of a set's clients take of the supply, and the values of the sets below it
+pub record Weighable (set used held : ℕ) (rows values : List ℕ) : Type 0 where
+  pub sale : On-sale held rows
+  pub room : Room (sale .k) (sale .supply) (leasts (sale .least) (clients-in 6 set)) used
+  pub known : Values-to (sale .m) (sale .wt) (sale .supply) set values
   pub some : 1 ≤ set
   pub few : set < 64
 
@@ -51,15 +55,10 @@ pub record Set-weighed (set used held : ℕ) (rows values : List ℕ) (value : �
       → Room k supply (leasts least (clients-in 6 set)) used → Values-to m wt supply set values
       → value ≡ reach m wt (clients-in 6 set) supply
 
--- some market that is laid out, with a supply and what least hours take of it
+-- what least hours take of the supply, for every set
 pub record Passable (held : ℕ) (rows taken : List ℕ) : Type 0 where
-  pub m : Market
-  pub wt : ℕ → ℕ
-  pub k : ℕ
-  pub supply : List ℕ
-  pub least : ℕ → List ℕ
-  pub laid : Laid-out m wt k least held rows
-  pub rooms : Taken-to k supply least 64 taken
+  pub sale : On-sale held rows
+  pub rooms : Taken-to (sale .k) (sale .supply) (sale .least) 64 taken
 
 -- the values of all sets
 pub record Sets-weighed (held : ℕ) (rows taken values : List ℕ) : Type 0 where

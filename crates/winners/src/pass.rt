@@ -95,7 +95,8 @@ fn weigh_sets(held: usize, rows: &[u64; ROWS_END], taken: &[u64; SETS]) -> [u64;
     values
 }
 
-// The greatest value of every set of clients of a sound book, of which some are discarded: these add nothing to any set.
+// The greatest value of every set of clients of a sound book, of which some are discarded: these add nothing to any set. Where nobody has
+// a bid it is 0.
 pub(crate) fn weigh_all(book: Book, discard: u8) -> [u64; SETS]
     requires { ⌜ sound-number book ≡ 0 ⌝ }
     ensures { λ r. ⌜ Values-to (searched (book-of book) discard) (amount-of (book-of book)) (supplies (book-of book)) 64 r ⌝ }
@@ -105,7 +106,11 @@ pub(crate) fn weigh_all(book: Book, discard: u8) -> [u64; SETS]
     rows::fill(book, used, &mut rows);
     let mut leasts = [0u64; SLOTS];
     trims::settle_all(book, discard, &mut rows, &mut leasts);
+    let held = held_in(&rows);
+    if held == 0 {
+        return [0; SETS];
+    }
     let mut taken = [0u64; SETS];
     taken::fill_taken(used, &leasts, &mut taken);
-    weigh_sets(held_in(&rows), &rows, &taken)
+    weigh_sets(held, &rows, &taken)
 }

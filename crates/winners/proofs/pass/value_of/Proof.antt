@@ -43,7 +43,8 @@ search-full-requires : tie.Need-search-full-requires
 search-full-requires c κs =
     let tested = c .before in
     let w = tested .before .before .before .before .pre in
-    value-searchable _ _ _ _ _ (w .m) (w .wt) (w .k) (w .supply) (w .least) (w .laid) (w .room) (w .known)
+    let s = w .sale in
+    value-searchable _ _ _ _ _ (s .m) (s .wt) (s .k) (s .supply) (s .least) (s .laid) (w .room) (w .known)
     _ (tested .before .before .floor-of .ensures) (clear tested) _ (c .size .ensures) (w .few)
 
 size-requires : tie.Need-size-requires

@@ -1,15 +1,19 @@
 -- `pass::weigh_all` meets its contract. Assumes nothing.
 use borrow.Author.Needs.{needs}
+use mathlib.Core.List.{List}
+use Prim.Native.Nat.{ℕ}
 use lib.ListN.{length}
 use Rattle.book.specs.Book.{supplies}
 use Rattle.book.specs.Value.{book-of}
 use Rattle.book.proofs.Held.{sound-held}
 use Rattle.winners.specs.Combinations.{amount-of}
 use Rattle.winners.specs.Lanes.{Left}
-use Rattle.winners.specs.Taken.{Taken-to}
+use Rattle.winners.specs.Passes.{Laid-out}
+use Rattle.winners.specs.Taken.{Leasts-held, Taken-to}
 use Rattle.winners.specs.Trims.{searched}
 use Rattle.winners.proofs.HeldBids.{supply-left}
 use Rattle.winners.proofs.LaidOut.{least-of, leasts-laid, laid-out}
+use Rattle.winners.proofs.PassSteps.{values-none}
 use Rattle.winners.proofs.pass.weigh_all.Statement.{statement}
 use Rattle.winners.proofs.pass.weigh_all.Tie as tie
 
@@ -24,63 +28,78 @@ supplied c =
 fill-requires : tie.Need-fill-requires
 fill-requires c κs = (c .before .before .before .pre, supplied (c .before))
 
-fill-taken-requires : tie.Need-fill-taken-requires
-fill-taken-requires c κs =
-    let settled = c .before .before in
-    let used = settled .before .before .before .before .before in
-    let s = used .before .before in
-    let v = s .args .book in (
-      search needs,
-      record {
-        k = length (book-of v .kinds);
-        supply = supplies (book-of v);
-        least = least-of (book-of v) (sound-held v (s .pre)) (s .args .discard) _ _ (settled .settle-all .ensures .0);
-        left = supplied used;
-        held = leasts-laid (book-of v) (sound-held v (s .pre)) (s .args .discard) _ _ (settled .settle-all .ensures .0);
-      },
-    )
-
--- the rows that are weighed, and what least hours take
+-- the rows that are weighed
 module _ (c : tie.After-held-in) where
   abbrev settled : tie.After-settle-all
-  settled = c .before .before .before .before .before
+  settled = c .before .before
 
   abbrev start : tie.Start
   start = settled .before .before .before .before .before .before .before
 
-  rooms : let v = start .args .book in
-      Taken-to (length (book-of v .kinds)) (supplies (book-of v))
-      (least-of (book-of v) (sound-held v (start .pre)) (start .args .discard) _ _ (settled .settle-all .ensures .0)) 64
-      (c .before .before .fill-taken .last .1 .1 .0)
-  rooms = let v = start .args .book in
-      c .before .before .fill-taken .ensures _ _ _ (supplied (settled .before .before .before .before .before))
-      (leasts-laid (book-of v) (sound-held v (start .pre)) (start .args .discard) _ _ (settled .settle-all .ensures .0))
+  abbrev least : ℕ → List ℕ
+  least = let v = start .args .book in
+      least-of (book-of v) (sound-held v (start .pre)) (start .args .discard) _ _ (settled .settle-all .ensures .0)
+
+  laid : let v = start .args .book in
+      Laid-out (searched (book-of v) (start .args .discard)) (amount-of (book-of v)) (length (book-of v .kinds)) least (c .held-in .result)
+      (settled .settle-all .last .1 .1 .0)
+  laid = let v = start .args .book in
+      laid-out (book-of v) (sound-held v (start .pre)) (start .args .discard) _ _ (settled .settle-all .ensures .0) _ (c .held-in .ensures)
+
+  leasts-are : Leasts-held (length (book-of (start .args .book) .kinds)) least (settled .settle-all .last .1 .1 .1 .0)
+  leasts-are = let v = start .args .book in
+      leasts-laid (book-of v) (sound-held v (start .pre)) (start .args .discard) _ _ (settled .settle-all .ensures .0)
+
+  left : let v = start .args .book in Left (length (book-of v .kinds)) (supplies (book-of v))
+      (settled .before .before .before .before .before .used .result)
+  left = supplied (settled .before .before .before .before .before)
+
+returns : tie.Need-returns
+returns c = values-none _ _ _ _ _ _ _ (c .if1 .taken) (laid (c .before))
+
+fill-taken-requires : tie.Need-fill-taken-requires
+fill-taken-requires c κs =
+    let held = c .before .before .before in
+    let v = start held .args .book in (
+      search needs,
+      record {
+        k = length (book-of v .kinds);
+        supply = supplies (book-of v);
+        least = least held;
+        left = left held;
+        held = leasts-are held;
+      },
+    )
+
+-- and what least hours take
+rooms : (c : tie.After-fill-taken) → let held = c .before .before .before .before in
+    let v = start held .args .book in
+    Taken-to (length (book-of v .kinds)) (supplies (book-of v)) (least held) 64 (c .fill-taken .last .1 .1 .0)
+rooms c =
+    let held = c .before .before .before .before in
+    c .fill-taken .ensures _ _ _ (left held) (leasts-are held)
 
 weigh-sets-requires : tie.Need-weigh-sets-requires
 weigh-sets-requires c κs =
-    let held = c .before .before in
-    let s = start held in
-    let v = s .args .book in
-    let done = settled held .settle-all .ensures .0 in
+    let taken = c .before .before in
+    let held = taken .before .before .before .before in
+    let v = start held .args .book in
     record {
-      m = searched (book-of v) (s .args .discard);
-      wt = amount-of (book-of v);
-      k = length (book-of v .kinds);
-      supply = supplies (book-of v);
-      least = least-of (book-of v) (sound-held v (s .pre)) (s .args .discard) _ _ done;
-      laid = laid-out (book-of v) (sound-held v (s .pre)) (s .args .discard) _ _ done _ (held .held-in .ensures);
-      rooms = rooms held;
+      sale = record {
+        m = searched (book-of v) (start held .args .discard);
+        wt = amount-of (book-of v);
+        k = length (book-of v .kinds);
+        supply = supplies (book-of v);
+        least = least held;
+        laid = laid held;
+      };
+      rooms = rooms taken;
     }
 
-returns : tie.Need-returns
-returns c =
-    let held = c .before .before .before in
-    let s = start held in
-    let v = s .args .book in
-    let done = settled held .settle-all .ensures .0 in
-    c .weigh-sets .ensures .is _ _ _ _ _
-    (laid-out (book-of v) (sound-held v (s .pre)) (s .args .discard) _ _ done _ (held .held-in .ensures))
-    (rooms held)
+returns-2 : tie.Need-returns-2
+returns-2 c =
+    let taken = c .before .before .before in
+    c .weigh-sets .ensures .is _ _ _ _ _ (laid (taken .before .before .before .before)) (rooms taken)
 
 pub weigh-all-spec : {M : Type 1} → statement M
 weigh-all-spec =
@@ -90,7 +109,8 @@ weigh-all-spec =
     (λ c κs. search needs)
     fill-requires
     (λ c κs. search needs)
-    fill-taken-requires
     (λ c κs. search needs)
+    returns
+    fill-taken-requires
     weigh-sets-requires
-    returns)
+    returns-2)

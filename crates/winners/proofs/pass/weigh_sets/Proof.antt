@@ -30,15 +30,11 @@ value-of-requires c κs =
     let turn = c .before .before in
     let l = turn .before .loop in
     let w = turn .before .before .pre in
+    let s = w .sale in
     record {
-      m = w .m;
-      wt = w .wt;
-      k = w .k;
-      supply = w .supply;
-      least = w .least;
-      laid = w .laid;
+      sale = s;
       room = w .rooms (l .set) (turn .loop-test .taken);
-      known = l .inv .2 (w .m) (w .wt) (w .k) (w .supply) (w .least) (w .laid) (w .rooms);
+      known = l .inv .2 (s .m) (s .wt) (s .k) (s .supply) (s .least) (s .laid) (w .rooms);
       some = l .inv .0;
       few = turn .loop-test .taken;
     }
