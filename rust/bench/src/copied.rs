@@ -82,8 +82,8 @@ fn others(set: usize, slot: usize) -> usize {
     set - (1 << (slot - 1))
 }
 
-fn search_full(set: usize, used: u64, floor: u64, rows: &Rows, values: &Values) -> u64 {
-    if set == 0 {
+fn search_full(ahead: usize, set: usize, used: u64, floor: u64, rows: &Rows, values: &Values) -> u64 {
+    if ahead == 0 {
         return floor;
     }
     let slot = highest(set);
@@ -99,7 +99,7 @@ fn search_full(set: usize, used: u64, floor: u64, rows: &Rows, values: &Values) 
         }
         let after = used + rows[ASKED + (ROW * slot + d)];
         if fits(after) {
-            top = weight + search_full(rest, after, top.saturating_sub(weight), rows, values);
+            top = weight + search_full(ahead - 1, rest, after, top.saturating_sub(weight), rows, values);
         }
         d += 1;
     }
@@ -120,7 +120,7 @@ fn value_of(set: usize, used: u64, held: usize, rows: &Rows, values: &Values) ->
     if !fits(used) {
         return floor;
     }
-    search_full(set, used, floor, rows, values)
+    search_full(set.count_ones() as usize, set, used, floor, rows, values)
 }
 
 fn weigh_all(book: &Book, discard: u8) -> Values {

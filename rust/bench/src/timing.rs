@@ -55,8 +55,8 @@ impl Rounds {
         rounds
     }
 
-    /// Some rounds more, at least four, however long the works are. Before each turn the work has one that does not count: else a work would
-    /// gain where the one before it runs the same code, of which the processor has then learnt the branches.
+    /// Some rounds more, at least four, however long the works are. Before each turn the work has one that does not count: else a work
+    /// would gain where the one before it runs the same code, of which the processor has then learnt the branches.
     pub fn go_on(&mut self, works: &[Work]) {
         let times: Vec<u32> = works.iter().map(times_in_turn).collect();
         let once = |(work, &times): (&Work, &u32)| {
