@@ -1,3 +1,4 @@
+-- The definitions, in the order in which they build on one another. Assumes nothing.
 pub mod Bytes
 pub mod Lists
 pub mod Book

@@ -1,5 +1,5 @@
 -- Sets of clients by slots: the first client and the others, the set without one of its clients, and clients that add nothing left out.
--- Cited by the proofs of src/slots.rt, src/taken.rt, src/search.rt and src/values.rt. Assumes nothing.
+-- Cited by the proofs of src/slots.rt, src/taken.rt, src/full.rt and src/values.rt. Assumes nothing.
 use mathlib.Core.Path.{_≡_, refl, sym, ap, ap₂, fun-ext, _∙_}
 use mathlib.Core.Bool.{Bool, true, false, _&&_, cond}
 use mathlib.Core.List.{List, [], _∷_}

@@ -1,4 +1,4 @@
--- Hours asked and hours used as numbers: whether they fit, and what is left. Cited by the proof of src/search.rt. Assumes nothing.
+-- Hours asked and hours used as numbers: whether they fit, and what is left. Cited by the proof of src/full.rt. Assumes nothing.
 use mathlib.Core.Path.{_≡_, ap₂, _∙_}
 use mathlib.Core.Bool.{true}
 use mathlib.Core.List.{List}

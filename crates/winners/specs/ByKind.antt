@@ -1,4 +1,4 @@
--- The entries of a list for each of the by-kind kinds that a book can have. Cited by the contracts over hours. Assumes nothing: these are
+-- The entries of a list for each of the four kinds that a book can have. Cited by the contracts over hours. Assumes nothing: these are
 -- definitions.
 use mathlib.Core.List.{List}
 use Prim.Native.Nat.{ℕ}

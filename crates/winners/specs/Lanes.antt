@@ -1,5 +1,5 @@
--- The hours of several kinds as one number: a lane of 16 bits for each kind, the first kind lowest. Cited by the contracts of src/lib.rt,
--- and by the search of the layer above. Assumes nothing: these are definitions.
+-- The hours of several kinds as one number: a lane of 16 bits for each kind, the first kind lowest. Cited by the contracts of
+-- src/lanes.rt and of the search. Assumes nothing: these are definitions.
 use mathlib.Core.Path.{_≡_}
 use mathlib.Core.List.{List, [], _∷_}
 use Prim.Native.Nat.{ℕ, zero, suc, _+_, _*_, _-_, _/_, _^_, _≤_, _<_}
