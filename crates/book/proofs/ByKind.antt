@@ -13,29 +13,26 @@ use Rattle.book.specs.Value.{book-of}
 use Rattle.book.specs.declared.value.Book.{Book as Arrays}
 use Rattle.book.proofs.Held.{hours-of-kind, supply-by-number}
 
-module _ (v : Arrays) where
-  -- what is read of a kind that there is, else 0
-  abbrev asked : (i j : ℕ) → ℕ
-  asked i j = cond (ltb j (min (v .k) 4)) (getD (v .hours) (4 * (i - 1) + j) 0) 0
+-- where there is no bid of a number
+pub no-hours : (v : Arrays) (i : ℕ) → within 1 i (min (v .m) 48) ≡ false
+    → (0 ∷ 0 ∷ 0 ∷ 0 ∷ []) ≡ row 4 0 (λ j. getD (bid-at (book-of v) i .hours) j 0)
+unfolding row
+no-hours v i h = rw (hours-of-kind v i 0, hours-of-kind v i 1, hours-of-kind v i 2, hours-of-kind v i 3, h)
 
-  pub four-hours : (i a b c d : ℕ) → within 1 i (min (v .m) 48) ≡ true
-      → a ≡ cond (ltb 0 (min (v .k) 4)) (getD (v .hours) (4 * (i - 1)) 0) 0 → b ≡ asked i 1 → c ≡ asked i 2 → d ≡ asked i 3
+-- what is read of each of the kinds, and 0 past them
+module _ (v : Arrays) (k a b c d : ℕ) (kinds : k ≡ min (v .k) 4) where
+  pub four-hours : (i : ℕ) → within 1 i (min (v .m) 48) ≡ true
+      → let asked : (j p : ℕ) → ℕ = λ j p. cond (ltb j k) (getD (v .hours) p 0) 0 in
+      let at = 4 * (i - 1) in a ≡ asked 0 at → b ≡ asked 1 (at + 1) → c ≡ asked 2 (at + 2) → d ≡ asked 3 (at + 3)
       → (a ∷ b ∷ c ∷ d ∷ []) ≡ row 4 0 (λ j. getD (bid-at (book-of v) i .hours) j 0)
   unfolding row
-  four-hours i a b c d h ea eb ec ed =
+  four-hours i h ea eb ec ed =
       let first : 4 * (i - 1) + 0 ≡ 4 * (i - 1) = omega arith in
-      rw (hours-of-kind v i 0, hours-of-kind v i 1, hours-of-kind v i 2, hours-of-kind v i 3, h, first, ea, eb, ec, ed)
+      rw (hours-of-kind v i 0, hours-of-kind v i 1, hours-of-kind v i 2, hours-of-kind v i 3, h, first, ← kinds, ea, eb, ec, ed)
 
-  pub no-hours : (i : ℕ) → within 1 i (min (v .m) 48) ≡ false
-      → (0 ∷ 0 ∷ 0 ∷ 0 ∷ []) ≡ row 4 0 (λ j. getD (bid-at (book-of v) i .hours) j 0)
-  unfolding row
-  no-hours i h = rw (hours-of-kind v i 0, hours-of-kind v i 1, hours-of-kind v i 2, hours-of-kind v i 3, h)
-
-  abbrev sold : (j : ℕ) → ℕ
-  sold j = cond (ltb j (min (v .k) 4)) (getD (v .supply) j 0) 0
-
-  pub four-supplies : (a b c d : ℕ) → a ≡ sold 0 → b ≡ sold 1 → c ≡ sold 2 → d ≡ sold 3
+  pub four-supplies : let sold : ℕ → ℕ = λ j. cond (ltb j k) (getD (v .supply) j 0) 0 in
+      a ≡ sold 0 → b ≡ sold 1 → c ≡ sold 2 → d ≡ sold 3
       → (a ∷ b ∷ c ∷ d ∷ []) ≡ row 4 0 (λ j. getD (supplies (book-of v)) j 0)
   unfolding row
-  four-supplies a b c d ea eb ec ed =
-      rw (supply-by-number v 0, supply-by-number v 1, supply-by-number v 2, supply-by-number v 3, ea, eb, ec, ed)
+  four-supplies ea eb ec ed =
+      rw (supply-by-number v 0, supply-by-number v 1, supply-by-number v 2, supply-by-number v 3, ← kinds, ea, eb, ec, ed)

@@ -92,7 +92,7 @@ pub(crate) fn clients(input: &[u8], k: usize, m: usize, at: usize) -> [u8; 48]
 }
 
 // A byte where it counts, and 0 where it does not.
-fn kept(on: bool, byte: u8) -> u8
+pub(crate) fn kept(on: bool, byte: u8) -> u8
     ensures { λ r. ⌜ r ≡ cond on byte 0 ⌝ }
 {
     if on { byte } else { 0 }

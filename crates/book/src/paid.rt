@@ -1,5 +1,6 @@
 // The reserves of hours in a book's arrays, and question 5. The loop ends with the first bid that is not good.
 ghost use mathlib.Core.Path.{_≡_};
+ghost use mathlib.Core.Bool.{cond};
 ghost use mathlib.Core.List.{List};
 ghost use Prim.Native.Nat.{ℕ, _+_, _*_, _≤_, _<_};
 ghost use lib.Dec.{leb};
@@ -7,18 +8,22 @@ ghost use Rattle.book.specs.Lists.{all};
 ghost use Rattle.book.specs.Questions.{reserves-met};
 ghost use Rattle.book.specs.Room.{kinds-held, bids-held, first-of, products};
 
+// A reserve where there is its kind, and 0 where there is not.
+fn of_first(there: bool, reserve: u16) -> u16
+    ensures { λ r. ⌜ r ≡ cond there reserve 0 ⌝ }
+{
+    if there { reserve } else { 0 }
+}
+
 // The reserves of the first k kinds; 0 past them, so that hours past them count for nothing.
 pub(crate) fn first_reserves(k: usize, reserve: [u16; 4]) -> [u16; 4]
-    requires { ⌜ k ≤ 4 ⌝ }
     ensures { λ r. ⌜ r ≡ first-of k reserve ⌝ }
 {
-    let mut first = [0u16; 4];
-    let mut i: usize = 0;
-    while i < k {
-        first[i] = reserve[i];
-        i = i + 1;
-    }
-    first
+    let a = of_first(0 < k, reserve[0]);
+    let b = of_first(1 < k, reserve[1]);
+    let c = of_first(2 < k, reserve[2]);
+    let d = of_first(3 < k, reserve[3]);
+    [a, b, c, d]
 }
 
 // The reserves of the hours of one kind: a byte times two bytes, which three bytes hold.

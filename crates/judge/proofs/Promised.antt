@@ -9,11 +9,11 @@ use native.Mathlib.Omega.{arith}
 use Rattle.pricing.specs.Fractions.{Fraction}
 use Rattle.pricing.specs.Discounts.{Proper, own, Unlike, Inferior}
 use Rattle.demands.specs.Winners.{sigma}
-use Rattle.demands.specs.Call.{Call, sheet, call-refusal, Accepted}
+use Rattle.demands.specs.Call.{Call, sheet, call-refusal}
 use Rattle.demands.specs.Discounts.{discount, Admissible}
 use Rattle.demands.specs.Acceptable.{In-form, Acceptable}
 use Rattle.demands.specs.Answer.{Priced, Zeros}
-use Rattle.demands.specs.Promise.{Demand-2, Demand-3}
+use Rattle.demands.specs.Promise.{Demand-3}
 use Rattle.judge.specs.declared.prices.Prices.{Prices}
 use Rattle.judge.specs.Judgement.{answer-in, Judgement}
 

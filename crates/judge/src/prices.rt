@@ -6,6 +6,7 @@ ghost use mathlib.Core.Bool.{cond};
 ghost use Prim.Native.Nat.{ℕ, _*_, _-_, _≤_};
 ghost use lib.ListN.{getD, take};
 ghost use Rattle.book.specs.Value.{book-of};
+ghost use Rattle.book.specs.declared.value.Book.{Book as Arrays};
 ghost use Rattle.sets.specs.Tables.{tabulate};
 ghost use Rattle.winners.specs.Combinations.{amount-of};
 ghost use Rattle.demands.specs.Winners.{rho};
@@ -33,8 +34,9 @@ pub(crate) fn reserves_of(book: Book, bids: [u8; 6], w: usize) -> [u64; 6]
     let mut j: usize = 0;
     while j < few {
         let bid = bids[j] as usize;
-        let amount = book::amount_of(book, bid) as u64;
-        rho[j] = numbers::excess(amount, book::reserves_of(book, bid));
+        let amount = book::amount_in(book.m, &book.amount, bid) as u64;
+        let reserves = book::reserves_in(book.k, book.reserve, book.m, &book.hours, bid);
+        rho[j] = numbers::excess(amount, reserves);
         j += 1;
     }
     rho
@@ -52,15 +54,16 @@ pub(crate) fn refused(number: u8) -> Prices
     }
 }
 
-// What the winner with that bid pays over q; 0 where there is no such winner.
-fn price_of(book: Book, bid: u8, there: bool, q: u64, x: u64) -> u64
+// What the winner with that bid pays over q, in every book with these amounts; 0 where there is no such winner.
+fn price_of(m: u8, amounts: &[u32; 48], bid: u8, there: bool, q: u64, x: u64) -> u64
     requires { ⌜ q ≤ 10000 ⌝ }
-    ensures { λ r. ⌜ r ≡ cond there (q * amount-of (book-of book) bid - x) 0 ⌝ }
+    ensures { λ r. ⌜ ((v : Arrays) → v .m ≡ m → v .amount ≡ now (amounts .entry)
+        → r ≡ cond there (q * amount-of (book-of v) bid - x) 0) ⌝ }
 {
     if !there {
         return 0;
     }
-    let amount = book::amount_of(book, bid as usize) as u64;
+    let amount = book::amount_in(m, amounts, bid as usize) as u64;
     numbers::excess(q * amount, x)
 }
 
@@ -69,15 +72,17 @@ fn prices_of(book: Book, bids: [u8; 6], figures: Figures) -> [u64; 6]
     requires { ⌜ Ranges (certificate figures) ⌝ }
     ensures { λ r. ⌜ r ≡ tabulate 6 (price (book-of book) (sheet-held bids figures)) ⌝ }
 {
+    let m = book.m;
+    let amounts = &book.amount;
     let w = figures.w;
     let q = figures.q;
     let x = figures.x;
-    let first = price_of(book, bids[0], 0 < w, q, x[0]);
-    let second = price_of(book, bids[1], 1 < w, q, x[1]);
-    let third = price_of(book, bids[2], 2 < w, q, x[2]);
-    let fourth = price_of(book, bids[3], 3 < w, q, x[3]);
-    let fifth = price_of(book, bids[4], 4 < w, q, x[4]);
-    let sixth = price_of(book, bids[5], 5 < w, q, x[5]);
+    let first = price_of(m, amounts, bids[0], 0 < w, q, x[0]);
+    let second = price_of(m, amounts, bids[1], 1 < w, q, x[1]);
+    let third = price_of(m, amounts, bids[2], 2 < w, q, x[2]);
+    let fourth = price_of(m, amounts, bids[3], 3 < w, q, x[3]);
+    let fifth = price_of(m, amounts, bids[4], 4 < w, q, x[4]);
+    let sixth = price_of(m, amounts, bids[5], 5 < w, q, x[5]);
     [first, second, third, fourth, fifth, sixth]
 }
 

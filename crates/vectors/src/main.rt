@@ -12,6 +12,7 @@
 // Operations over a book that is a value (over_value.rt) take their numbers, then changes of the value (change.rt), then the book's bytes:
 //   S        the number of the first question that it fails
 //   c a r h  of a bid, its client, amount, reserves and hours; t whether a client stands; s the supplies
+//   l        of a bid, its client, amount and reserves, with the book's arrays lent
 //   g        the greatest value without the clients of a discard byte
 //   u        the greatest value, and σ of the sets of a list of clients: how many, then six places
 //   W        weighing a list of bids: how many, then six places
@@ -34,7 +35,7 @@ fn answer(letter: u8, s: &[u8]) {
         b'R' | b'G' | b'D' | b'T' => over_bytes::book(letter, s),
         b'J' | b'F' | b'f' => over_bytes::sheet(letter, s),
         b'S' | b's' => over_value::alone(letter, s),
-        b'c' | b'a' | b'r' | b'h' | b't' => over_value::by_number(letter, s),
+        b'c' | b'a' | b'r' | b'l' | b'h' | b't' => over_value::by_number(letter, s),
         _ => over_value::weighed(letter, s),
     }
 }

@@ -2,6 +2,7 @@
 use crate::change;
 use crate::change::after;
 use crate::print;
+use book::Book;
 use book::bytes;
 
 // The number of the first question that the book fails, or its supplies.
@@ -17,6 +18,13 @@ fn one_if(yes: bool) -> u64 {
     if yes { 1 } else { 0 }
 }
 
+// Of a bid, its client, amount and reserves, by the operations over a book's arrays.
+fn print_lent(book: Book, number: usize) {
+    print::next(book::client_in(book.m, &book.client, number) as u64);
+    print::next(book::amount_in(book.m, &book.amount, number) as u64);
+    print::next(book::reserves_in(book.k, book.reserve, book.m, &book.hours, number));
+}
+
 // What the book has under a number, of a bid or of a client.
 pub(crate) fn by_number(letter: u8, s: &[u8]) {
     let number = bytes::byte_at(s, 0) as usize;
@@ -25,6 +33,7 @@ pub(crate) fn by_number(letter: u8, s: &[u8]) {
         b'c' => print::next(book::client_of(book, number) as u64),
         b'a' => print::next(book::amount_of(book, number) as u64),
         b'r' => print::next(book::reserves_of(book, number)),
+        b'l' => print_lent(book, number),
         b'h' => print::four(book::hours_of(book, number)),
         _ => print::next(one_if(book::is_standing(book, number))),
     }

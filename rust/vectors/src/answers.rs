@@ -172,6 +172,7 @@ fn by_number(letter: char, book: &Book, number: usize) -> Vec<u64> {
         'c' => vec![bid.map_or(0, |bid| bid.client as u64)],
         'a' => vec![bid.map_or(0, |bid| bid.amount as u64)],
         'r' => vec![bid.map_or(0, |bid| book.reserves(bid) as u64)],
+        'l' => ['c', 'a', 'r'].into_iter().flat_map(|letter| by_number(letter, book, number)).collect(),
         'h' => filled(bid.map_or(Vec::new(), |bid| bid.hours.clone()), 4),
         _ => vec![book.is_standing(number).into()],
     }
@@ -198,7 +199,7 @@ pub fn answer(letter: char, bytes: &[u8]) -> Vec<u64> {
         'f' => bids_answer(bytes),
         'S' => vec![changed(bytes).0.sound().err().unwrap_or(0).into()],
         's' => filled(changed(bytes).0.meaning().supply, 4),
-        'c' | 'a' | 'r' | 'h' | 't' => by_number(letter, &changed(rest).0.meaning(), count),
+        'c' | 'a' | 'r' | 'l' | 'h' | 't' => by_number(letter, &changed(rest).0.meaning(), count),
         'g' => worth(changed(rest).0.sound(), first),
         'u' => table(changed(after(bytes, 7)).0.sound(), &six, count),
         'W' => {

@@ -131,7 +131,7 @@ fn number_lines() -> Vec<Line> {
         lines.push(Line::new(letter, label, &[&[number], &changed(changes, book)]));
     };
     let six = six_clients();
-    for letter in ['c', 'a', 'r', 'h'] {
+    for letter in ['c', 'a', 'r', 'l', 'h'] {
         for number in [0, 1, 2, 7, 8, 255] {
             add(letter, format!("bid {number} of seven"), number, &[], &six);
         }

@@ -28,7 +28,7 @@ fn each_line_once_and_each_operation_tried() {
     let heads: HashSet<(char, &str)> = lines.iter().map(|line| (line.letter, &line.label[..])).collect();
     assert_eq!(heads.len(), lines.len(), "two lines have one name");
     let letters: HashSet<char> = lines.iter().map(|line| line.letter).collect();
-    assert_eq!(letters, "bwdqRGDTJFfScarhtsguWO".chars().collect());
+    assert_eq!(letters, "bwdqRGDTJFfScarlhtsguWO".chars().collect());
 }
 
 /// The answers' first numbers: each that an operation over a value can refuse with is among them.

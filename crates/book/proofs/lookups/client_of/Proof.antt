@@ -1,36 +1,11 @@
--- `lookups::client_of` meets its contract. Assumes nothing.
+-- `lookups::client_of` meets its contract: its book is one with the arrays that it lends. Assumes nothing.
 use borrow.Author.Needs.{needs}
-use borrow.Author.Tests.{not-true, not-false}
-use mathlib.Core.Path.{_≡_, sym, _∙_}
-use mathlib.Core.Bool.{true}
-use Prim.Native.Nat.{min}
-use native.Mathlib.Omega.{arith}
-use Rattle.book.specs.Lists.{within}
-use Rattle.book.proofs.Held.{client-by-number}
-use Rattle.book.proofs.Tests.{within-true}
+use mathlib.Core.Path.{refl}
 use Rattle.book.proofs.lookups.client_of.Statement.{statement}
 use Rattle.book.proofs.lookups.client_of.Tie as tie
 
--- past the test the number is a bid's
-stands : (c : tie.Else1) → let a = c .before .before .args in within 1 (a .number) (min (a .t1 .m) 48) ≡ true
-stands c = sym (c .before .is-bid .ensures) ∙ not-false _ (c .if1 .left)
-
 returns : tie.Need-returns
-returns c =
-    let a = c .before .before .args in
-    rw (client-by-number (a .t1) (a .number), sym (c .before .is-bid .ensures) ∙ not-true _ (c .if1 .taken))
-
-returns-2 : tie.Need-returns-2
-returns-2 c =
-    let a = c .before .before .before .args in
-    rw (client-by-number (a .t1) (a .number), stands (c .before))
+returns c = c .client-in .ensures _ refl refl
 
 pub client-of-spec : {M : Type 1} → statement M
-client-of-spec =
-    tie.close
-    (tie.spec
-    (λ c κs. search needs)
-    returns
-    (λ c. omega (arith, within-true _ _ _ (stands c)))
-    (λ c. omega (arith, within-true _ _ _ (stands c)))
-    returns-2)
+client-of-spec = tie.close (tie.spec (λ c κs. search needs) returns)

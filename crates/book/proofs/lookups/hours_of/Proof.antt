@@ -28,10 +28,11 @@ returns-2 c =
     let third = c .before .before in
     let second = third .before .before in
     let first = second .before .before in
-    let test = first .before .before in
+    let kinds = first .before .before in
+    let test = kinds .before in
     let a = test .before .before .args in
-    four-hours (a .t1) (a .number) _ _ _ _ (stands test)
-    (first .of-kind .ensures) (second .of-kind2 .ensures) (third .of-kind3 .ensures) (c .of-kind4 .ensures)
+    four-hours (a .t1) _ _ _ _ _ (kinds .smaller .ensures) (a .number) (stands test)
+    (first .kept .ensures) (second .kept2 .ensures) (third .kept3 .ensures) (c .kept4 .ensures)
 
 pub hours-of-spec : {M : Type 1} → statement M
 hours-of-spec =
@@ -39,17 +40,19 @@ hours-of-spec =
     (tie.spec
     (λ c κs. search needs)
     returns
-    (λ c. omega (arith, numbered c))
-    (λ c. omega (arith, numbered c))
-    (λ c. omega (arith, numbered c))
+    (λ c. search needs)
     (λ c κs. search needs)
-    (λ c. omega (arith, numbered (c .before .before)))
-    (λ c. omega (arith, numbered (c .before .before)))
+    (λ c. omega (arith, numbered (c .before)))
+    (λ c. omega (arith, numbered (c .before)))
+    (λ c. omega (arith, numbered (c .before)))
     (λ c κs. search needs)
-    (λ c. omega (arith, numbered (c .before .before .before .before)))
-    (λ c. omega (arith, numbered (c .before .before .before .before)))
+    (λ c. omega (arith, numbered (c .before .before .before)))
+    (λ c. omega (arith, numbered (c .before .before .before)))
     (λ c κs. search needs)
-    (λ c. omega (arith, numbered (c .before .before .before .before .before .before)))
-    (λ c. omega (arith, numbered (c .before .before .before .before .before .before)))
+    (λ c. omega (arith, numbered (c .before .before .before .before .before)))
+    (λ c. omega (arith, numbered (c .before .before .before .before .before)))
+    (λ c κs. search needs)
+    (λ c. omega (arith, numbered (c .before .before .before .before .before .before .before)))
+    (λ c. omega (arith, numbered (c .before .before .before .before .before .before .before)))
     (λ c κs. search needs)
     returns-2)

@@ -9,13 +9,16 @@ returns c =
     let third = c .before in
     let second = third .before in
     let first = second .before in
-    four-supplies (first .before .before .args .book) _ _ _ _
-    (first .of-kind .ensures) (second .of-kind2 .ensures) (third .of-kind3 .ensures) (c .of-kind4 .ensures)
+    let kinds = first .before .before in
+    four-supplies (kinds .before .before .args .book) _ _ _ _ _ (kinds .smaller .ensures)
+    (first .kept .ensures) (second .kept2 .ensures) (third .kept3 .ensures) (c .kept4 .ensures)
 
 pub supply-of-spec : {M : Type 1} → statement M
 supply-of-spec =
     tie.close
     (tie.spec
+    (λ c. search needs)
+    (λ c κs. search needs)
     (λ c. search needs)
     (λ c κs. search needs)
     (λ c. search needs)
