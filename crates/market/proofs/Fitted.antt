@@ -15,7 +15,7 @@ use Rattle.market.proofs.Hours.{fits-if}
 use Rattle.market.proofs.Worth.{worth-one}
 use Rattle.market.proofs.Optimum.{greatest-attained, greatest-unbeaten}
 
-module _ (nobody : ℕ) (m : Market) (n : ℕ) (supply : List ℕ) (s : Supplied m supply) where
+module _ (m : Market) (n : ℕ) (supply : List ℕ) (s : Supplied m supply) where
   -- each bid of a combination fits the supply by itself
   fits-alone : (is : List ℕ) → Combination m n supply is → (k : ℕ) → k < length is → fits (m .hours (at is k)) supply ≡ true
   fits-alone is c k l =
@@ -23,31 +23,28 @@ module _ (nobody : ℕ) (m : Market) (n : ℕ) (supply : List ℕ) (s : Supplied
       fits-if (m .hours (at is k)) supply (s (at is k) first last)
       (λ kind h. le-trans (worth-one (λ i. at (m .hours i) kind) is k l) (c .within kind h))
 
-  into : (is : List ℕ) → Combination m n supply is → Combination (fitted nobody supply m) n supply is
+  into : (is : List ℕ) → Combination m n supply is → Combination (fitted supply m) n supply is
   into is c = record {
     numbers = c .numbers;
     eligible = λ k l. rw (fits-alone is c k l, and-true) (c .eligible k l);
-    owners = λ k l. rw (fits-alone is c k l) (c .owners k l);
-    one-each = λ j k l h. rw (fits-alone is c j (omega arith), fits-alone is c k h) (c .one-each j k l h);
+    owners = c .owners;
+    one-each = c .one-each;
     within = c .within;
   }
 
-  out-of : (is : List ℕ) → Combination (fitted nobody supply m) n supply is → Combination m n supply is
+  out-of : (is : List ℕ) → Combination (fitted supply m) n supply is → Combination m n supply is
   out-of is c = record {
     numbers = c .numbers;
-    eligible = λ k l. able k l .0;
-    owners = λ k l. rw (able k l .1) at (c .owners k l);
-    one-each = λ j k l h. rw (able j (omega arith) .1, able k h .1) at (c .one-each j k l h);
+    eligible = λ k l. and-eq-true-iff (m .may (at is k)) (fits (m .hours (at is k)) supply) .0 (c .eligible k l) .0;
+    owners = c .owners;
+    one-each = c .one-each;
     within = c .within;
   }
-    where
-      able : (k : ℕ) → k < length is → (m .may (at is k) ≡ true) × (fits (m .hours (at is k)) supply ≡ true)
-      able k l = and-eq-true-iff (m .may (at is k)) (fits (m .hours (at is k)) supply) .0 (c .eligible k l)
 
-  pub best-fitted : (wt : ℕ → ℕ) → best (fitted nobody supply m) wt n 1 supply ≡ best m wt n 1 supply
+  pub best-fitted : (wt : ℕ → ℕ) → best (fitted supply m) wt n 1 supply ≡ best m wt n 1 supply
   best-fitted wt =
-      let (is, c, _, e) = greatest-attained (fitted nobody supply m) n supply wt in
+      let (is, c, _, e) = greatest-attained (fitted supply m) n supply wt in
       let (js, d, _, f) = greatest-attained m n supply wt in
       le-antisymm
       (le-trans (le-of-eq (sym e)) (greatest-unbeaten m n supply wt s is (out-of is c)))
-      (le-trans (le-of-eq (sym f)) (greatest-unbeaten (fitted nobody supply m) n supply wt s js (into js d)))
+      (le-trans (le-of-eq (sym f)) (greatest-unbeaten (fitted supply m) n supply wt s js (into js d)))

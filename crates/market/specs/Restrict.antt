@@ -15,11 +15,7 @@ unfoldable pub kept : Market → (keep : ℕ → Bool) → List ℕ → List ℕ
 kept m keep [] = []
 kept m keep (i ∷ is) = let rest = kept m keep is in cond (keep (m .owner i)) (i ∷ rest) rest
 
--- the same market, of which a bid that asks for more than the supply may not be taken, and is not its client's but `nobody`'s
-abbrev pub fitted : (nobody : ℕ) → (supply : List ℕ) → Market → Market
-fitted nobody supply m = record {
-  bids = m .bids;
-  owner = λ i. cond (fits (m .hours i) supply) (m .owner i) nobody;
-  hours = m .hours;
-  may = λ i. m .may i && fits (m .hours i) supply;
-}
+-- the same market, of which a bid that asks for more than the supply may not be taken
+abbrev pub fitted : (supply : List ℕ) → Market → Market
+fitted supply m =
+    record { bids = m .bids; owner = m .owner; hours = m .hours; may = λ i. m .may i && fits (m .hours i) supply }

@@ -1,68 +1,30 @@
--- Sets of clients by slots: the first client and the others, the set without one of its clients, and clients that add nothing left out.
--- Cited by the proofs of src/slots.rt, src/taken.rt, src/full.rt and src/values.rt. Assumes nothing.
+-- Sets of clients as numbers: the first client and the others, the set without one of its clients, and clients that add nothing left out.
+-- Cited by the proofs of src/client_sets.rt, src/full.rt and src/pass.rt. Assumes nothing.
 use mathlib.Core.Path.{_≡_, refl, sym, ap, ap₂, fun-ext, _∙_}
-use mathlib.Core.Bool.{Bool, true, false, _&&_, cond}
+use mathlib.Core.Bool.{Bool, true, false, _&&_, cond, false≢true, and-eq-true-iff}
 use mathlib.Core.List.{List, [], _∷_}
 use mathlib.Core.Logic.{_≢_, ⊎-elim}
 use Prim.Native.Nat.{ℕ, zero, suc, _+_, _-_, _*_, _/_, _%_, _^_, _≤_, _<_, min}
-use native.Mathlib.Numerals.{one-add}
-use native.Mathlib.Nat.{mod-lt, mod-eq-of-lt, le-refl, pow-suc}
+use native.Mathlib.Numerals.{add-one}
+use native.Mathlib.Nat.{pow-suc, le-of-suc-le-suc}
 use native.Mathlib.Decide.{ℕ-discrete, decLt}
 use native.Mathlib.Omega.{arith}
 use borrow.Author.Tests.{eqb-true, eq-eqb, ne-eqb}
-use lib.Bits.{bitAnd, and-shr, and-step}
+use lib.Bits.{bitAnd, and-shr, and-step, and-le-l}
+use lib.Count.{ones, ones-step, under, trailingZeros}
 use lib.Dec.{eqb}
 use lib.ListN.{length}
-use lib.Count.{onesIn, ones, ones-cat}
-use lib.Pow.{pow-pos, pow-mono, mod-pow-add}
-use Rattle.sets.specs.Sets.{has}
-use Rattle.sets.proofs.Members.{and-mask, has-low, has-half, has-above, has-last, has-same}
-use Rattle.market.specs.Market.{Market}
+use lib.Pow.{pow-pos}
+use Rattle.sets.specs.Sets.{has, set-of}
+use Rattle.sets.proofs.Members.{and-mask, has-low, has-half, has-zero, has-above, has-set-of, set-of-lt, set-ext}
+use Rattle.market.specs.Market.{Market, at}
 use Rattle.market.specs.Greatest.{choose}
 use Rattle.market.specs.Members.{reach, members, without, Row-of, choose-in}
 use Rattle.market.proofs.Bools.{either}
+use Rattle.market.proofs.Members.{members-same, members-at, members-without, members-first, Drops}
+use Rattle.market.proofs.ReachKept.{reach-kept}
 use Rattle.market.proofs.RowOf.{row-chooses}
-use Rattle.winners.specs.ClientSets.{clients-in, Highest}
-
--- LOW BITS ALONE COUNT
-clients-low : (t s s′ : ℕ) → ((j : ℕ) → j < t → has s j ≡ has s′ j) → clients-in t s ≡ clients-in t s′
-unfolding clients-in
-clients-low zero s s′ h = refl
-clients-low (suc t) s s′ h = rw (h t (le-refl _), clients-low t s s′ (λ j l. h j (omega arith)))
-
-clients-more : (u t s : ℕ) → s < 2 ^ t → clients-in (u + t) s ≡ clients-in t s
-unfolding clients-in
-clients-more zero t s l = let none : 0 + t ≡ t = omega arith in rw none
-clients-more (suc u) t s l =
-    let more : suc u + t ≡ suc (u + t) = omega arith in
-    rw (more, has-above t s (u + t) l (omega arith)) (clients-more u t s l)
-
-clients-all : (t s : ℕ) → t ≤ 6 → s < 2 ^ t → clients-in 6 s ≡ clients-in t s
-clients-all t s l h = let all : 6 - t + t ≡ 6 = omega arith in rw all at (clients-more (6 - t) t s h)
-
--- the set of nobody
-pub clients-none : clients-in 6 0 ≡ []
-unfolding clients-in
-clients-none = clients-all 0 0 (omega arith) (omega arith)
-
--- THE FIRST CLIENT AND THE OTHERS
-pub clients-first : (s t : ℕ) → Highest s t → clients-in 6 s ≡ (7 - t) ∷ clients-in 6 (s - 2 ^ (t - 1))
-unfolding clients-in
-clients-first s zero h = absurd (omega (arith, h .low))
-clients-first s (suc j) h =
-    let back : suc j - 1 ≡ j = omega arith in
-    let there : 2 ^ j ≤ s = rw back at (h .there) in
-    let below : s - 2 ^ j < 2 ^ j = omega (arith, h .below, pow-suc 2 j) in
-    let whole : 2 ^ j + (s - 2 ^ j) ≡ s = omega arith in
-    let on : has s j ≡ true = rw whole at (has-last j (s - 2 ^ j) below) in
-    let client : 7 - suc j ≡ 6 - j = omega arith in
-    let few = h .high in
-    let later : clients-in j s ≡ clients-in 6 (s - 2 ^ j)
-    = clients-low j s (s - 2 ^ j) (λ i l. rw whole at (has-same j (s - 2 ^ j) i l)) ∙ sym (clients-all j (s - 2 ^ j) (omega arith) below) in
-    clients-all (suc j) s few (h .below) ∙ (rw (on, client, back, later))
-
-pub others-less : (s t : ℕ) → Highest s t → s - 2 ^ (t - 1) < s
-others-less s t h = omega (arith, h .there, pow-pos (t - 1))
+use Rattle.winners.specs.ClientSets.{clients-in, First, Within}
 
 -- ONE CLIENT LEFT OUT
 record Dropped (s j : ℕ) : Type 0 where
@@ -105,46 +67,52 @@ dropped (suc j) s h =
 pub has-there : (s j : ℕ) → has s j ≡ true → 2 ^ j ≤ s
 has-there s j h = dropped j s h .there
 
--- the client at a place has a bit, and without it the set is that without the bit
-abbrev Bit : (t s d : ℕ) → Type 0
-Bit t s d = (j : ℕ) × (j < t) × (has s j ≡ true) × (without d (clients-in t s) ≡ clients-in t (s - 2 ^ j))
-
--- one slot more, which the set has
-bit-place : (t s d : ℕ) → has s t ≡ true → ((e : ℕ) → suc e ≡ d → Bit t s e) → Bit (suc t) s d
-unfolding clients-in without
-bit-place t s zero y f =
-    let d = dropped t s y in
-    (t, le-refl _, y, rw (y, d .gone) (clients-low t s (s - 2 ^ t) (λ i b. sym (d .kept i (λ q. omega arith)))))
-bit-place t s (suc d) y f =
-    let (j, b, h, e) = f d refl in
-    let on : has (s - 2 ^ j) t ≡ true = dropped j s h .kept t (λ q. omega arith) ∙ y in
-    (j, omega arith, h, rw (y, on, e))
-
-pub clients-without : (t s d : ℕ) → d < length (clients-in t s) → Bit t s d
-unfolding clients-in without
-clients-without zero s d l = absurd (omega arith)
-clients-without (suc t) s d l = ⊎-elim
-    (λ (y : has s t ≡ true). let inside = rw y at l in bit-place t s d y (λ e q. clients-without t s e (omega arith)))
-    (λ (n : has s t ≡ false).
-    let (j, b, h, e) = clients-without t s d (rw n at l) in
-    let off : has (s - 2 ^ j) t ≡ false = dropped j s h .kept t (λ q. omega arith) ∙ n in
-    (j, omega arith, h, rw (n, off) e))
-    (either (has s t))
-
--- and a client that has a bit has a place
-pub clients-drop : (t s j : ℕ) → j < t → has s j ≡ true → (d : ℕ) × (without d (clients-in t s) ≡ clients-in t (s - 2 ^ j))
-unfolding clients-in without
-clients-drop zero s j l h = absurd (omega arith)
-clients-drop (suc t) s j l h = elim (ℕ-discrete j t) [
-  | yes e ↦
-      let here : has s t ≡ true = rw e at h in
-      let d = dropped t s here in
-      rw e (0, rw (here, d .gone) (clients-low t s (s - 2 ^ t) (λ i b. sym (d .kept i (λ q. omega arith)))))
-  | no n ↦
-      let (d, e) = clients-drop t s j (omega arith) h in
-      let same = dropped j s h .kept t (λ q. n (sym q)) in
-      ⊎-elim (λ (y : has s t ≡ true). (suc d, rw (y, same ∙ y, e))) (λ (z : has s t ≡ false). (d, rw (z, same ∙ z) e)) (either (has s t))
+-- a client is of the set without another if it is of the set and is not that one
+pub fewer-within : (s j : ℕ) → has s j ≡ true → Within (s - 2 ^ j) s
+fewer-within s j h i y = elim (ℕ-discrete i j) [
+  | yes e ↦ absurd (false≢true (sym (dropped j s h .gone) ∙ (rw e at y)))
+  | no n ↦ sym (dropped j s h .kept i n) ∙ y
 ]
+
+-- and of the clients that are not, it alone has gone
+pub gone-alone : (s j i : ℕ) → has s j ≡ true → has (s - 2 ^ j) i ≡ false → i ≢ j → has s i ≡ false
+gone-alone s j i h z n = sym (dropped j s h .kept i n) ∙ z
+
+-- as a test of clients
+drops : (s x : ℕ) → 1 ≤ x → has s (x - 1) ≡ true → Drops (λ c. has s (c - 1)) (λ c. has (s - 2 ^ (x - 1)) (c - 1)) 6 1 x
+drops s x l h = record {
+  dropped = dropped (x - 1) s h .gone;
+  others = λ y a b n. dropped (x - 1) s h .kept (y - 1) (λ e. n (omega arith));
+}
+
+-- THE FIRST CLIENT AND THE OTHERS
+pub clients-first : (s c : ℕ) → First s c → clients-in s ≡ c ∷ clients-in (s - 2 ^ (c - 1))
+clients-first s c f =
+    members-first (λ x. has s (x - 1)) (λ x. has (s - 2 ^ (c - 1)) (x - 1)) 6 1 c (f .low) (omega (arith, f .high)) (f .there)
+    (λ y a b. f .none (y - 1) (omega arith)) (drops s c (f .low) (f .there))
+
+pub others-less : (s c : ℕ) → First s c → s - 2 ^ (c - 1) < s
+others-less s c f = omega (arith, has-there s (c - 1) (f .there), pow-pos (c - 1))
+
+-- the set of nobody
+pub clients-none : clients-in 0 ≡ []
+unfolding members
+clients-none = rw (has-zero 0, has-zero 1, has-zero 2, has-zero 3, has-zero 4, has-zero 5)
+
+-- the client at a place has a bit, and without it the set is that without the bit
+pub clients-without : (s d : ℕ) → d < length (clients-in s)
+    → (j : ℕ) × (j < 6) × (has s j ≡ true) × (without d (clients-in s) ≡ clients-in (s - 2 ^ j))
+clients-without s d l =
+    let keep : ℕ → Bool = λ c. has s (c - 1) in
+    let x = at (clients-in s) d in
+    let (low, high, on) = members-at keep 6 1 d l in
+    (x - 1, omega arith, on, members-without keep (λ c. has (s - 2 ^ (x - 1)) (c - 1)) 6 1 d l (drops s x low on))
+
+-- fewer clients reach no more
+pub reach-fewer : (m : Market) (wt : ℕ → ℕ) (s j : ℕ) (ls : List ℕ) → has s j ≡ true
+    → reach m wt (clients-in (s - 2 ^ j)) ls ≤ reach m wt (clients-in s) ls
+reach-fewer m wt s j ls h =
+    reach-kept m wt (λ c. has s (c - 1)) (λ c. has (s - 2 ^ j) (c - 1)) 6 1 ls (λ y a b t. fewer-within s j h (y - 1) t)
 
 -- a bit that is shifted down and masked
 pub has-on : (s j : ℕ) → bitAnd (s / 2 ^ j) 1 ≡ 1 → has s j ≡ true
@@ -168,69 +136,121 @@ has-and a b j = rw (and-shr a b j) (low (a / 2 ^ j) (b / 2 ^ j))
     low : (a b : ℕ) → eqb (bitAnd a b % 2) 1 ≡ (eqb (a % 2) 1 && eqb (b % 2) 1)
     low a b = bits (a % 2) (b % 2) (bitAnd a b % 2) (omega arith) (omega arith) (omega (arith, and-step a b))
 
-module _ (m : Market) (wt : ℕ → ℕ) (held : ℕ) (idle : (j : ℕ) → j < 6 → has held j ≡ false → Row-of m (m .bids) (6 - j) []) where
+-- what both have, where it is all of the first
+pub and-within : (s o : ℕ) → bitAnd s o ≡ s → Within s o
+and-within s o e j h = and-eq-true-iff (has s j) (has o j) .0 (sym (has-and s o j) ∙ ap (λ (x : ℕ). has x j) e ∙ h) .1
+
+pub within-and : (s o : ℕ) → s < 64 → Within s o → bitAnd s o ≡ s
+within-and s o l w =
+    set-ext 6 (bitAnd s o) s (omega (arith, and-le-l s o)) l (λ j b. has-and s o j ∙ ⊎-elim
+    (λ (y : has s j ≡ true). rw (y, w j y))
+    (λ (n : has s j ≡ false). rw n)
+    (either (has s j)))
+
+module _ (m : Market) (wt : ℕ → ℕ) (held : ℕ) (idle : (j : ℕ) → j < 6 → has held j ≡ false → Row-of m (m .bids) (1 + j) []) where
   -- they add nothing, and are left out
-  reach-left : (t s : ℕ) → t ≤ 6 → (ls : List ℕ) → reach m wt (clients-in t s) ls ≡ reach m wt (clients-in t (bitAnd s held)) ls
-  unfolding clients-in reach choose-in
-  reach-left zero s l ls = refl
-  reach-left (suc t) s l ls =
-      let later = reach-left t s (omega arith) in
-      let both = has-and s held t in
+  reach-left : (k c s : ℕ) → 1 ≤ c → c + k ≤ 7 → (ls : List ℕ)
+      → reach m wt (members (λ x. has s (x - 1)) k c) ls ≡ reach m wt (members (λ x. has (bitAnd s held) (x - 1)) k c) ls
+  unfolding members reach choose-in
+  reach-left zero c s a l ls = refl
+  reach-left (suc k) c s a l ls =
+      let later = reach-left k (suc c) s (omega arith) (omega arith) in
+      let both = has-and s held (c - 1) in
+      let same : 1 + (c - 1) ≡ c = omega arith in
       ⊎-elim
-      (λ (y : has s t ≡ true). ⊎-elim
-      (λ (z : has held t ≡ true). let on : has (bitAnd s held) t ≡ true = both ∙ (rw (y, z)) in
-      rw (y, on) (ap₂ (λ (p : ℕ) (on : List ℕ → ℕ). choose m wt (m .bids) (6 - t) ls p on) (later ls) (fun-ext later)))
-      (λ (z : has held t ≡ false). let off : has (bitAnd s held) t ≡ false = both ∙ (rw (y, z)) in
-      rw (y, off) (row-chooses m wt ls _ _ (m .bids) (6 - t) [] (idle t l z) ∙ later ls))
-      (either (has held t)))
-      (λ (n : has s t ≡ false). let off : has (bitAnd s held) t ≡ false = both ∙ (rw n) in rw (n, off) (later ls))
-      (either (has s t))
+      (λ (y : has s (c - 1) ≡ true). ⊎-elim
+      (λ (z : has held (c - 1) ≡ true). let on : has (bitAnd s held) (c - 1) ≡ true = both ∙ (rw (y, z)) in
+      rw (y, on) (ap₂ (λ (p : ℕ) (on : List ℕ → ℕ). choose m wt (m .bids) c ls p on) (later ls) (fun-ext later)))
+      (λ (z : has held (c - 1) ≡ false). let off : has (bitAnd s held) (c - 1) ≡ false = both ∙ (rw (y, z)) in
+      rw (y, off) (row-chooses m wt ls _ _ (m .bids) c [] (rw same at (idle (c - 1) (omega arith) z)) ∙ later ls))
+      (either (has held (c - 1))))
+      (λ (n : has s (c - 1) ≡ false). let off : has (bitAnd s held) (c - 1) ≡ false = both ∙ (rw n) in rw (n, off) (later ls))
+      (either (has s (c - 1)))
 
-  pub reach-held : (s : ℕ) (ls : List ℕ) → reach m wt (clients-in 6 s) ls ≡ reach m wt (clients-in 6 (bitAnd s held)) ls
-  reach-held s ls = reach-left 6 s (le-refl 6) ls
-
--- THE CLIENTS THAT ARE KEPT, BY THEIR NUMBERS
-pub clients-kept : (keep : ℕ → Bool) (s : ℕ) → ((c : ℕ) → 1 ≤ c → c ≤ 6 → keep c ≡ has s (6 - c)) → members keep 6 1 ≡ clients-in 6 s
-unfolding members clients-in
-clients-kept keep s h = rw (
-  h 1 (omega arith) (omega arith),
-  h 2 (omega arith) (omega arith),
-  h 3 (omega arith) (omega arith),
-  h 4 (omega arith) (omega arith),
-  h 5 (omega arith) (omega arith),
-  h 6 (omega arith) (omega arith),
-)
+  pub reach-held : (s : ℕ) (ls : List ℕ) → reach m wt (clients-in s) ls ≡ reach m wt (clients-in (bitAnd s held)) ls
+  reach-held s ls = reach-left 6 1 s (omega arith) (omega arith) ls
 
 -- HOW MANY THERE ARE
-bit-size : (x n m : ℕ) → x < 2 → m ≡ cond (eqb x 1) (suc n) n → m ≡ ones x + n
-unfolding ones onesIn
-bit-size zero n m l e = omega arith
-bit-size (suc zero) n m l e = omega arith
-bit-size (suc (suc x)) n m l e = absurd (omega arith)
+pub clients-few : (keep : ℕ → Bool) (k c : ℕ) → length (members keep k c) ≤ k
+unfolding members
+clients-few keep zero c = omega arith
+clients-few keep (suc k) c = ⊎-elim
+    (λ (y : keep c ≡ true). rw y (omega (arith, clients-few keep k (suc c))))
+    (λ (n : keep c ≡ false). rw n (omega (arith, clients-few keep k (suc c))))
+    (either (keep c))
 
-longer : (b : Bool) (x : ℕ) (xs : List ℕ) → length (cond b (x ∷ xs) xs) ≡ cond b (suc (length xs)) (length xs)
-longer true x xs = refl
-longer false x xs = refl
+-- a number's ones, with its lowest digit
+ones-with : (b : Bool) (n : ℕ) → ones (cond b 1 0 + 2 * n) ≡ cond b 1 0 + ones n
+ones-with true n =
+    let low : (1 + 2 * n) % 2 ≡ 1 = omega arith in
+    let half : (1 + 2 * n) / 2 ≡ n = omega arith in
+    ones-step (1 + 2 * n) ∙ (rw (low, half))
+ones-with false n =
+    let low : (0 + 2 * n) % 2 ≡ 0 = omega arith in
+    let half : (0 + 2 * n) / 2 ≡ n = omega arith in
+    ones-step (0 + 2 * n) ∙ (rw (low, half))
 
-size-low : (t s : ℕ) → length (clients-in t s) ≡ ones (s % 2 ^ t)
-unfolding clients-in has ones onesIn
-size-low zero s = let none : s % 2 ^ 0 ≡ 0 = omega arith in rw none
-size-low (suc t) s =
-    let parts : s % 2 ^ suc t ≡ s / 2 ^ t % 2 * 2 ^ t + s % 2 ^ t = rw (one-add t) at (mod-pow-add s 1 t) in
-    bit-size (s / 2 ^ t % 2) _ _ (omega arith) (longer (has s t) (6 - t) (clients-in t s))
-    ∙ ap (λ (n : ℕ). ones (s / 2 ^ t % 2) + n) (size-low t s)
-    ∙ sym (ap ones parts ∙ ones-cat t (s / 2 ^ t % 2) (s % 2 ^ t) (mod-lt s (pow-pos t)))
+longer : (b : Bool) (x : ℕ) (xs : List ℕ) → length (cond b (x ∷ xs) xs) ≡ cond b 1 0 + length xs
+longer true x xs = omega arith
+longer false x xs = omega arith
 
-pub size-is : (s : ℕ) → s < 64 → ones s ≡ length (clients-in 6 s)
-size-is s l = sym (size-low 6 s ∙ ap ones (mod-eq-of-lt l))
+size-of : (keep : ℕ → Bool) (k c : ℕ) → length (members keep k c) ≡ ones (set-of k (λ j. keep (c + j)))
+unfolding members set-of ones
+size-of keep zero c = refl
+size-of keep (suc k) c =
+    let here : c + 0 ≡ c = omega arith in
+    let rest : set-of k (λ j. keep (c + suc j)) ≡ set-of k (λ j. keep (suc c + j))
+    = ap (λ (f : ℕ → Bool). set-of k f) (fun-ext (λ j. ap keep (omega arith))) in
+    rw (here, rest) (longer (keep c) c (members keep k (suc c)) ∙ ap (λ (n : ℕ). cond (keep c) 1 0 + n) (size-of keep k (suc c))
+    ∙ sym (ones-with (keep c) (set-of k (λ j. keep (suc c + j)))))
 
--- THE HIGHEST SLOT
-pub highest-is : (set r j : ℕ) → set < 64 → r ≡ suc j → 2 ^ j ≤ set → set < 2 ^ suc j → Highest set r
-highest-is set r j few e there below =
-    let back : suc j - 1 ≡ j = omega arith in
+pub size-is : (s : ℕ) → s < 64 → ones s ≡ length (clients-in s)
+size-is s l =
+    let all : s ≡ set-of 6 (λ j. has s (1 + j - 1))
+    = set-ext 6 s _ l (set-of-lt 6 (λ j. has s (1 + j - 1)))
+    (λ k b. sym (has-set-of 6 (λ j. has s (1 + j - 1)) k b ∙ ap (λ (x : ℕ). has s x) (omega arith))) in
+    ap ones all ∙ sym (size-of (λ c. has s (c - 1)) 6 1)
+
+-- THE LOWEST BIT
+record Lowest (s j : ℕ) : Type 0 where
+  there : has s j ≡ true
+  none : (i : ℕ) → i < j → has s i ≡ false
+
+-- of a number, by its lowest digit and the lowest bit of its half
+by-low : (s t d : ℕ) → d ≡ s % 2 → (s % 2 ≡ 0 → Lowest (s / 2) t) → Lowest s (under d t)
+by-low s t zero e half = record {
+  there = has-half s t ∙ half (sym e) .there;
+  none = λ i b. before i b (half (sym e) .none);
+}
+  where
+    before : (i : ℕ) → i < suc t → ((i : ℕ) → i < t → has (s / 2) i ≡ false) → has s i ≡ false
+    before zero l h = has-low s ∙ (rw (← e))
+    before (suc i) l h = has-half s i ∙ h i (le-of-suc-le-suc l)
+by-low s t (suc d) e half =
+    let odd : s % 2 ≡ 1 = omega arith in
+    record { there = has-low s ∙ (rw odd); none = λ i b. absurd (omega arith) }
+
+lowest-is : (k s : ℕ) → 1 ≤ s → s < 2 ^ k → Lowest s (trailingZeros k s)
+unfolding trailingZeros
+lowest-is zero s l u = absurd (omega arith)
+lowest-is (suc k) s l u =
+    by-low s (trailingZeros k (s / 2)) (s % 2) refl (λ e. lowest-is k (s / 2) (omega arith) (omega (arith, pow-suc 2 k)))
+
+-- the first client, by the zeros below it
+pub first-is : (s r : ℕ) → 1 ≤ s → s < 64 → r ≡ trailingZeros 64 s + 1 → First s r
+first-is s r l u e =
+    let low = lowest-is 64 s l (omega arith) in
+    let back : trailingZeros 64 s + 1 - 1 ≡ trailingZeros 64 s = omega arith in
     rw e (record {
       low = omega arith;
-      high = elim (decLt j 6) [ yes l ↦ l | no l ↦ absurd (omega (arith, pow-mono {i = 6} {j = j} (omega arith))) ];
-      there = rw back there;
-      below = below;
+      high = elim (decLt (trailingZeros 64 s) 6) [
+        | yes b ↦ omega arith
+        | no b ↦ absurd (false≢true (sym (has-above 6 s (trailingZeros 64 s) (omega arith) (omega arith)) ∙ low .there))
+      ];
+      there = rw back (low .there);
+      none = λ j b. low .none j (omega arith);
     })
+
+-- a set that is not empty has one
+pub some-client : (s : ℕ) → 1 ≤ s → s < 64 → 1 ≤ length (clients-in s)
+some-client s l u = rw (clients-first s _ (first-is s _ l u refl)) (omega arith)

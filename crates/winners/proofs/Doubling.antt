@@ -1,4 +1,4 @@
--- The sets that are picked from a list, by slots, which double with each client. Cited by the proofs of src/lists.rt. Assumes nothing.
+-- The sets that are picked from a list, which double with each client. Cited by the proofs of src/lists.rt. Assumes nothing.
 use mathlib.Core.Path.{_≡_, sym, ap, fun-ext, _∙_}
 use mathlib.Core.Bool.{Bool, _&&_}
 use mathlib.Core.List.{List}
@@ -32,7 +32,7 @@ doubled-next ds out end bit i v l k e d = record {
 byte-same : (cs : List ℕ) (j M : ℕ) → set-of 6 (early cs M j) ≡ set-of 6 (early cs (2 ^ j + M) j)
 byte-same cs j M =
     ap (λ (p : ℕ → Bool). set-of 6 p)
-    (fun-ext (λ k. any-ext j _ _ (λ i l. ap (λ (b : Bool). b && eqb (at cs i) (6 - k)) (sym (has-same j M i l)))))
+    (fun-ext (λ k. any-ext j _ _ (λ i l. ap (λ (b : Bool). b && eqb (at cs i) (1 + k)) (sym (has-same j M i l)))))
 
 -- the bytes of the sets of the first j clients
 abbrev pub Bytes : (clients : List ℕ) → (count j : ℕ) → List ℕ → Type 0
@@ -43,10 +43,10 @@ abbrev pub sets-of : ℕ → ℕ
 sets-of j = 1 * 2 ^ j % 2 ^ 64
 
 abbrev pub bit-of : ℕ → ℕ
-bit-of x = 1 * 2 ^ (6 - x) % 2 ^ 8
+bit-of x = 1 * 2 ^ (x - 1) % 2 ^ 8
 
-bit-is : (x : ℕ) → 1 ≤ x → (bit-of x ≡ 2 ^ (6 - x)) × (2 ^ (6 - x) ≤ 32)
-bit-is x h = (shl-exact {a = 1} 1 (6 - x) 8 (lit< tt) (omega arith) ∙ omega arith, pow-mono {i = 6 - x} {j = 5} (omega arith))
+bit-is : (x : ℕ) → x ≤ 6 → (bit-of x ≡ 2 ^ (x - 1)) × (2 ^ (x - 1) ≤ 32)
+bit-is x h = (shl-exact {a = 1} 1 (x - 1) 8 (lit< tt) (omega arith) ∙ omega arith, pow-mono {i = x - 1} {j = 5} (omega arith))
 
 module _ (clients : List ℕ) (count : ℕ) (h : Rising-list clients count) (e : length clients ≡ 6) where
   pub bytes-none : Bytes clients count 0 (replicate 64 0)
@@ -62,8 +62,8 @@ module _ (clients : List ℕ) (count : ℕ) (h : Rising-list clients count) (e :
     sets-are : (sets-of j ≡ 2 ^ j) × (2 ^ j ≤ 32)
     sets-are = let few = h .few in (power-shift j (omega arith), pow-mono {i = j} {j = 5} (omega arith))
 
-    bit : (bit-of (getD clients j 0) ≡ 2 ^ (6 - getD clients j 0)) × (2 ^ (6 - getD clients j 0) ≤ 32)
-    bit = bit-is _ (listed-range clients count j h e l .0)
+    bit : (bit-of (getD clients j 0) ≡ 2 ^ (getD clients j 0 - 1)) × (2 ^ (getD clients j 0 - 1) ≤ 32)
+    bit = bit-is _ (listed-range clients count j h e l .1)
 
     pub bytes-room : length ds ≡ 64 → Room-to-double ds (sets-of j) (bit-of (getD clients j 0))
     bytes-room long = record {
@@ -83,7 +83,7 @@ module _ (clients : List ℕ) (count : ℕ) (h : Rising-list clients count) (e :
         again M m =
             let few = h .few in
             let long = prefix-length clients count (omega arith) in
-            let bits = ap (λ (x : ℕ). 2 ^ (6 - x)) (prefix-at clients count (omega arith) j l) in
+            let bits = ap (λ (x : ℕ). 2 ^ (x - 1)) (prefix-at clients count (omega arith) j l) in
             let now = rw (sets-are .0) at (d .added M (omega (arith, sets-are))) in
             omega (
               arith,

@@ -1,7 +1,7 @@
 -- The bids of a sound book that is a value, by their places: whose they are, what they weigh, and their hours, also as numbers in lanes;
 -- and its supply as such a number. Cited by the proofs of src/. Assumes nothing.
 use mathlib.Core.Path.{_≡_, refl, sym, ap, ap₂, _∙_}
-use mathlib.Core.Bool.{Bool, cond}
+use mathlib.Core.Bool.{Bool, _&&_, not, cond}
 use mathlib.Core.List.{List, [], _∷_}
 use Prim.Native.Nat.{ℕ, zero, suc, _+_, _*_, _-_, _≤_, _<_}
 use native.Mathlib.Nat.{le-of-suc-le-suc, min-eq-left}
@@ -11,17 +11,20 @@ use lib.Bits.{bitAnd}
 use lib.Dec.{eqb}
 use lib.ListN.{length, getD, take, List·getD-eq-default}
 use lib.Seq.{ext-getD, getD-take, length-take-le}
-use Rattle.book.specs.Lists.{row}
-use Rattle.book.specs.Book.{Book, Bid, bid-at, client-of, clients, supplies}
+use Rattle.sets.specs.Sets.{has, set-of}
+use Rattle.sets.proofs.Members.{has-set-of}
+use Rattle.book.specs.Lists.{within, row}
+use Rattle.book.specs.Book.{Book, Bid, bid-at, client-of, clients, standing, supplies}
 use Rattle.book.specs.Value.{bid-held, book-of, sound-number}
 use Rattle.book.specs.declared.value.Book.{Book as Arrays}
 use Rattle.book.proofs.RowLaws.{row-length, row-at, row-past}
-use Rattle.book.proofs.Held.{held-kinds, held-clients, held-bids, held-bid, held-supply, counts-held, sound-held}
+use Rattle.book.proofs.Held.{held-kinds, held-clients, held-bids, held-bid, held-supply, counts-held, sound-held, standing-by-number}
 use Rattle.market.specs.Market.{fits}
 use Rattle.winners.specs.Combinations.{market, amount-of}
 use Rattle.winners.specs.ByKind.{by-kind}
+use Rattle.winners.specs.Greatest.{without, discarded}
 use Rattle.winners.specs.Lanes.{packed, used, Bytes, Asked, Left}
-use Rattle.winners.specs.Rows.{fitting-all}
+use Rattle.winners.specs.Rows.{searched}
 use Rattle.winners.proofs.Books.{supplies-count}
 use Rattle.winners.proofs.KindEntries.{by-kind-take}
 use Rattle.winners.proofs.LaneSums.{fit-says, used-short}
@@ -142,13 +145,14 @@ module _ (v : Arrays) (h : sound-number v ≡ 0) where
         packs = refl;
       }
 
-      -- whose it is, by its hours and the supply
-      pub slot-is : (u a own t : ℕ) → Left (length (book-of v .kinds)) (supplies (book-of v)) u
-          → a ≡ packed (bid-at (book-of v) (i + 1) .hours)
-          → own ≡ client-of (book-of v) (i + 1) → t ≡ 7 - cond (eqb (bitAnd (u + a) 72058693566333184) 0) own 7
-          → t ≡ 7 - fitting-all (book-of v) .owner (i + 1)
-      unfolding market
-      slot-is u a own t left ea eo et =
+      -- whose row it goes into, by the clients kept, its hours and the supply
+      pub row-is : (d kept u a own t : ℕ) → ((c : ℕ) → 1 ≤ c → c ≤ 6 → has kept (c - 1) ≡ (standing (book-of v) c && not (discarded d c)))
+          → Left (length (book-of v .kinds)) (supplies (book-of v)) u → a ≡ packed (bid-at (book-of v) (i + 1) .hours)
+          → own ≡ client-of (book-of v) (i + 1) → 1 ≤ own → own ≤ 6
+          → t ≡ cond (has kept (own - 1) && eqb (bitAnd (u + a) 72058693566333184) 0) own 0
+          → t ≡ cond (searched (book-of v) d .may (i + 1)) (client-of (book-of v) (i + 1)) 0
+      unfolding market without
+      row-is d kept u a own t keeps left ea eo low high et =
           let b = book-of v in
           let asked = asked-is in
           let count = supplies-count b in
@@ -156,4 +160,22 @@ module _ (v : Arrays) (h : sound-number v ≡ 0) where
           let sum : u + a ≡ used 4 (supplies b) + packed (bid-at b (i + 1) .hours) = ap₂ (λ (x y : ℕ). x + y) (left .lanes) ea in
           let fit : eqb (bitAnd (u + a) 72058693566333184) 0 ≡ fits (bid-at b (i + 1) .hours) (supplies b)
           = rw sum (fit-says _ _ (omega (arith, asked .kinds, count)) (omega (arith, count, few)) (asked .bytes) (left .bytes)) in
-          et ∙ ap₂ (λ (y : Bool) (x : ℕ). 7 - cond y x 7) fit eo
+          let on : has kept (own - 1) ≡ (standing b (client-of b (i + 1)) && not (discarded d (client-of b (i + 1))))
+          = keeps own low high ∙ ap (λ (c : ℕ). standing b c && not (discarded d c)) eo in
+          et ∙ ap₂ (λ (y : Bool) (x : ℕ). cond y x 0) (ap₂ (λ (x y : Bool). x && y) on fit) eo
+
+  -- the clients kept, by the caps
+  pub kept-is : (d kept : ℕ) → kept ≡ set-of 6 (λ j. (within 1 (1 + j) (v .n) && not (eqb (getD (v .caps) j 0) 0)) && not (has d j))
+      → (c : ℕ) → 1 ≤ c → c ≤ 6 → has kept (c - 1) ≡ (standing (book-of v) c && not (discarded d c))
+  unfolding discarded
+  kept-is d kept e zero l u = absurd (omega arith)
+  kept-is d kept e (suc c) l u =
+      let back : suc c - 1 ≡ c = omega arith in
+      let up : 1 + c ≡ suc c = omega arith in
+      let all = min-eq-left (counts-held v h .n-high) in
+      let stands : standing (book-of v) (suc c) ≡ (within 1 (suc c) (v .n) && not (eqb (getD (v .caps) c 0) 0))
+      = standing-by-number v (suc c)
+      ∙ ap₂ (λ (n p : ℕ). within 1 (suc c) n && not (eqb (getD (v .caps) p 0) 0)) all back in
+      rw back (rw (e, stands)
+      (has-set-of 6 (λ j. (within 1 (1 + j) (v .n) && not (eqb (getD (v .caps) j 0) 0)) && not (has d j)) c (omega arith)
+      ∙ ap (λ (x : ℕ). (within 1 x (v .n) && not (eqb (getD (v .caps) c 0) 0)) && not (has d c)) up))

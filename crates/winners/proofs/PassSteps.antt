@@ -1,7 +1,7 @@
 -- The steps of the pass over sets: a set's floor, clients without a bid, and its value by the split. Cited by the proofs of src/pass.rt.
 -- Assumes nothing.
 use mathlib.Core.Path.{_≡_, refl, sym, ap, ap₂, fun-ext, _∙_}
-use mathlib.Core.Bool.{Bool, true, false, cond}
+use mathlib.Core.Bool.{Bool, true, false, cond, true≢false}
 use mathlib.Core.List.{List, [], _∷_}
 use mathlib.Core.Logic.{_⊎_, inl, inr, ⊎-elim}
 use Prim.Native.Nat.{ℕ, suc, _+_, _-_, _*_, _^_, _≤_, _<_, max}
@@ -13,7 +13,7 @@ use lib.ListN.{length, getD, set, replicate, length-replicate}
 use borrow.Author.Tests.{leb-true, leb-false, ltb-true, ltb-false}
 use lib.Pow.{pow-pos, pow-mono}
 use Rattle.sets.specs.Sets.{has, set-of}
-use Rattle.sets.proofs.Members.{set-of-lt}
+use Rattle.sets.proofs.Members.{has-zero, set-of-lt}
 use Rattle.sets.proofs.Filled.{filled-next, zeros-at}
 use Rattle.market.specs.Market.{Market, fits, less}
 use Rattle.market.specs.Members.{more, reach, leasts, trimmed, without}
@@ -21,43 +21,55 @@ use Rattle.market.proofs.Bools.{either}
 use Rattle.market.proofs.Adding.{more-length, more-at, fits-length}
 use Rattle.market.proofs.Hours.{fits-at, fits-if}
 use Rattle.market.proofs.Choose.{choose-attained}
-use Rattle.market.proofs.Reach.{reach-without}
 use Rattle.market.proofs.Trimmed.{full-reaches}
 use Rattle.market.proofs.Split.{split-value, split-floor}
-use Rattle.winners.specs.ClientSets.{clients-in, Highest}
+use Rattle.winners.specs.ClientSets.{clients-in, First, Within}
 use Rattle.winners.specs.Full.{Tail, one, next, Ceilings, Searchable, Searched}
-use Rattle.winners.specs.Passes.{Floor-to, Laid-out, Values-to}
+use Rattle.winners.specs.Passes.{Floor-past, Laid-out, Idle-but, Values-to}
 use Rattle.winners.specs.Taken.{Room}
-use Rattle.winners.proofs.ClientSets.{clients-none, clients-first, clients-without, clients-drop, others-less, reach-held, has-there}
-use Rattle.winners.proofs.Searching.{clients-few}
+use Rattle.winners.proofs.ClientSets.{clients-none, clients-first, clients-without, clients-few, some-client, others-less}
+use Rattle.winners.proofs.ClientSets.{fewer-within, gone-alone, has-there, reach-held, reach-fewer}
 use Rattle.winners.proofs.Taking.{more-fits}
 
--- A SET'S FLOOR
-pub floor-none : (set : ℕ) (values : List ℕ) → Floor-to 0 set values 0
-floor-none set values = record { covers = λ j l. absurd (omega arith); there = inl refl }
+-- A SET'S FLOOR, one client left out after another
+pub floor-none : (set : ℕ) (values : List ℕ) → Floor-past set set values 0
+floor-none set values = record { covers = λ j l y z. absurd (true≢false (sym y ∙ z)); there = inl refl }
 
-pub floor-next : (n set : ℕ) (values : List ℕ) (floor v now : ℕ) → v ≡ cond (has set n) (getD values (set - 2 ^ n) 0) 0 → now ≡ max floor v
-    → Floor-to n set values floor → Floor-to (n + 1) set values now
-floor-next n set values floor v now ev en h = record {
-  covers = λ j l y. elim (ℕ-discrete j n) [
-    | yes e ↦ let here : v ≡ getD values (set - 2 ^ j) 0 = rw e (ev ∙ (rw (rw e at y))) in omega arith
-    | no e ↦ omega (arith, h .covers j (omega arith) y)
-  ];
-  there = ⊎-elim (λ (y : leb v floor ≡ true). kept (omega (arith, leb-true v floor y)) (h .there))
-      (λ (z : leb v floor ≡ false). raised (leb-false v floor z) (either (has set n))) (either (leb v floor));
-}
-  where
-    kept : now ≡ floor → (floor ≡ 0) ⊎ ((j : ℕ) × (j < n) × (has set j ≡ true) × (floor ≡ getD values (set - 2 ^ j) 0))
-        → (now ≡ 0) ⊎ ((j : ℕ) × (j < n + 1) × (has set j ≡ true) × (now ≡ getD values (set - 2 ^ j) 0))
-    kept e (inl z) = inl (e ∙ z)
-    kept e (inr (j, l, y, z)) = inr (j, omega arith, y, e ∙ z)
+module _ (left c set : ℕ) (values : List ℕ) (floor now : ℕ) (first : First left c) (within : Within left set) where
+  abbrev rest : ℕ
+  rest = left - 2 ^ (c - 1)
 
-    raised : floor < v → (has set n ≡ true) ⊎ (has set n ≡ false)
-        → (now ≡ 0) ⊎ ((j : ℕ) × (j < n + 1) × (has set j ≡ true) × (now ≡ getD values (set - 2 ^ j) 0))
-    raised l (inl y) = let here : v ≡ getD values (set - 2 ^ n) 0 = ev ∙ (rw y) in inr (n, omega arith, y, omega arith)
-    raised l (inr z) = let none : v ≡ 0 = ev ∙ (rw z) in absurd (omega arith)
+  -- the first client's bit
+  pub bit-is : left - rest ≡ 2 ^ (c - 1)
+  bit-is = let there = has-there left (c - 1) (first .there) in omega arith
 
--- THE CLIENTS THAT HAVE A BID, from the last slot down
+  pub bit-few : 2 ^ (c - 1) ≤ set
+  bit-few = has-there set (c - 1) (within (c - 1) (first .there))
+
+  pub rest-within : Within rest set
+  rest-within j h = within j (fewer-within left (c - 1) (first .there) j h)
+
+  abbrev without-first : ℕ
+  without-first = getD values (set - 2 ^ (c - 1)) 0
+
+  pub floor-next : now ≡ max floor without-first → Floor-past left set values floor → Floor-past rest set values now
+  floor-next en h = record {
+    covers = λ j l y z. elim (ℕ-discrete j (c - 1)) [
+      | yes e ↦ rw e (omega arith)
+      | no n ↦ omega (arith, h .covers j l y (gone-alone left (c - 1) j (first .there) z n))
+    ];
+    there = ⊎-elim (λ (y : leb without-first floor ≡ true). kept (omega (arith, leb-true without-first floor y)) (h .there))
+        (λ (z : leb without-first floor ≡ false).
+        inr (c - 1, omega (arith, first .low, first .high), within (c - 1) (first .there), omega (arith, leb-false without-first floor z)))
+        (either (leb without-first floor));
+  }
+    where
+      kept : now ≡ floor → (floor ≡ 0) ⊎ ((j : ℕ) × (j < 6) × (has set j ≡ true) × (floor ≡ getD values (set - 2 ^ j) 0))
+          → (now ≡ 0) ⊎ ((j : ℕ) × (j < 6) × (has set j ≡ true) × (now ≡ getD values (set - 2 ^ j) 0))
+      kept e (inl z) = inl (e ∙ z)
+      kept e (inr (j, l, y, z)) = inr (j, l, y, e ∙ z)
+
+-- A SET BY ITS CLIENTS, from the last down
 pub held-next : (q : ℕ → Bool) (t held now : ℕ) (b : Bool) → 0 < t → t ≤ 6 → held ≡ set-of (6 - t) (λ i. q (t + 1 + i)) → b ≡ q t
     → now ≡ cond b 1 0 + 2 * held → now ≡ set-of (6 - (t - 1)) (λ i. q (t - 1 + 1 + i))
 unfolding set-of
@@ -82,13 +94,13 @@ reach-most m wt a h (c ∷ cs) ls =
     (choose-attained m wt c ls (reach m wt cs ls) (λ rs. reach m wt cs rs) (m .bids))
 
 reach-few : (m : Market) (wt : ℕ → ℕ) → ((i : ℕ) → wt i ≤ 9007199254740992) → (s : ℕ) (ls : List ℕ)
-    → reach m wt (clients-in 6 s) ls ≤ 54043195528445952
-reach-few m wt h s ls = omega (arith, reach-most m wt 9007199254740992 h (clients-in 6 s) ls, clients-few 6 s)
+    → reach m wt (clients-in s) ls ≤ 54043195528445952
+reach-few m wt h s ls = omega (arith, reach-most m wt 9007199254740992 h (clients-in s) ls, clients-few (λ c. has s (c - 1)) 6 1)
 
 -- THE CLIENTS LEFT
 tail-less : {s r : ℕ} → Tail s r → r < s
-tail-less (one {s = s} {t = t} h) = others-less s t h
-tail-less (next {s = s} {t = t} h tail) = omega (arith, tail-less tail, others-less s t h)
+tail-less (one {s = s} {c = t} h) = others-less s t h
+tail-less (next {s = s} {c = t} h tail) = omega (arith, tail-less tail, others-less s t h)
 
 -- what fits with the least hours of more clients fits with those of fewer
 fewer-fits : (ys xs zs ls : List ℕ) → fits (more ys (more xs zs)) ls ≡ true → fits (more ys zs) ls ≡ true
@@ -96,34 +108,35 @@ fewer-fits ys xs zs ls t =
     fits-if (more ys zs) ls (simp more-length (omega (arith, simp more-length at (fits-length _ _ t))))
     (λ k l. simp more-at (omega (arith, simp more-at at (fits-at _ _ t k))))
 
-first-room : (least : ℕ → List ℕ) (s t : ℕ) → Highest s t → (ys ls : List ℕ) → fits (more ys (leasts least (clients-in 6 s))) ls ≡ true
-    → fits (more ys (leasts least (clients-in 6 (s - 2 ^ (t - 1))))) ls ≡ true
+first-room : (least : ℕ → List ℕ) (s t : ℕ) → First s t → (ys ls : List ℕ) → fits (more ys (leasts least (clients-in s))) ls ≡ true
+    → fits (more ys (leasts least (clients-in (s - 2 ^ (t - 1))))) ls ≡ true
 unfolding leasts
-first-room least s t h ys ls f = fewer-fits ys (least (7 - t)) _ ls (rw (clients-first s t h) at f)
+first-room least s t h ys ls f = fewer-fits ys (least t) _ ls (rw (clients-first s t h) at f)
 
-tail-room : (least : ℕ → List ℕ) {s r : ℕ} → Tail s r → (ys ls : List ℕ) → fits (more ys (leasts least (clients-in 6 s))) ls ≡ true
-    → fits (more ys (leasts least (clients-in 6 r))) ls ≡ true
-tail-room least (one {s = s} {t = t} h) ys ls f = first-room least s t h ys ls f
-tail-room least (next {s = s} {t = t} h tail) ys ls f = tail-room least tail ys ls (first-room least s t h ys ls f)
+tail-room : (least : ℕ → List ℕ) {s r : ℕ} → Tail s r → (ys ls : List ℕ) → fits (more ys (leasts least (clients-in s))) ls ≡ true
+    → fits (more ys (leasts least (clients-in r))) ls ≡ true
+tail-room least (one {s = s} {c = t} h) ys ls f = first-room least s t h ys ls f
+tail-room least (next {s = s} {c = t} h tail) ys ls f = tail-room least tail ys ls (first-room least s t h ys ls f)
+
+-- CLIENTS WITHOUT A BID are left out
+pub value-left : (m : Market) (wt : ℕ → ℕ) (supply : List ℕ) (held set some : ℕ) (values : List ℕ) → Idle-but m held
+    → Values-to m wt supply set values → some ≡ bitAnd set held → some < set → getD values some 0 ≡ reach m wt (clients-in set) supply
+value-left m wt supply held set some values idle known e l =
+    known .below some l ∙ ap (λ (s : ℕ). reach m wt (clients-in s) supply) e ∙ sym (reach-held m wt held idle set supply)
 
 -- THE VALUE OF A SET
-module _ (set used held : ℕ) (rows values : List ℕ) (m : Market) (wt : ℕ → ℕ) (k : ℕ) (supply : List ℕ) (least : ℕ → List ℕ)
-    (laid : Laid-out m wt k least held rows) (room : Room k supply (leasts least (clients-in 6 set)) used)
+module _ (set used : ℕ) (rows values : List ℕ) (m : Market) (wt : ℕ → ℕ) (k : ℕ) (supply : List ℕ) (least : ℕ → List ℕ)
+    (laid : Laid-out m wt k least rows) (room : Room k supply (leasts least (clients-in set)) used)
     (known : Values-to m wt supply set values) where
   abbrev taken : List ℕ
-  taken = leasts least (clients-in 6 set)
+  taken = leasts least (clients-in set)
 
   -- known values of the clients left are ceilings
   ceilings : fits taken supply ≡ true → Ceilings (trimmed least m) wt values set (less supply taken)
   ceilings t r tail ys f =
       rw (known .below r (tail-less tail))
-      (full-reaches m wt least (laid .low) (clients-in 6 r) ys supply
+      (full-reaches m wt least (laid .low) (clients-in r) ys supply
       (tail-room least tail ys supply (sym (more-fits ys taken supply t) ∙ f)))
-
-  -- clients without a bid are left out
-  pub value-left : (some : ℕ) → some ≡ bitAnd set held → some < set → getD values some 0 ≡ reach m wt (clients-in 6 set) supply
-  value-left some e l =
-      known .below some l ∙ ap (λ (s : ℕ). reach m wt (clients-in 6 s) supply) e ∙ sym (reach-held m wt held (laid .idle) set supply)
 
   pub values-few : (r : ℕ) → getD values r 0 ≤ 54043195528445952
   values-few r = ⊎-elim
@@ -131,46 +144,39 @@ module _ (set used held : ℕ) (rows values : List ℕ) (m : Market) (wt : ℕ �
       (λ (z : ltb r set ≡ false). omega (arith, known .above r (ltb-false r set z)))
       (either (ltb r set))
 
-  module _ (floor : ℕ) (f : Floor-to 6 set values floor) where
-    covers : (d : ℕ) → d < length (clients-in 6 set) → reach m wt (without d (clients-in 6 set)) supply ≤ floor
+  module _ (floor : ℕ) (f : Floor-past 0 set values floor) where
+    covers : (d : ℕ) → d < length (clients-in set) → reach m wt (without d (clients-in set)) supply ≤ floor
     covers d l =
-        let (j, b, h, e) = clients-without 6 set d l in
+        let (j, b, h, e) = clients-without set d l in
         let there = has-there set j h in
         omega (
           arith,
           ap (λ (cs : List ℕ). reach m wt cs supply) e,
           known .below (set - 2 ^ j) (omega (arith, pow-pos j)),
-          f .covers j b h,
+          f .covers j b h (has-zero j),
         )
 
-    reached : floor ≤ reach m wt (clients-in 6 set) supply
+    reached : floor ≤ reach m wt (clients-in set) supply
     reached = ⊎-elim
         (λ (z : floor ≡ 0). omega arith)
-        (λ (j, b, h, v). let (d, e) = clients-drop 6 set j b h in
-        let there = has-there set j h in
-        omega (
-          arith,
-          v,
-          known .below (set - 2 ^ j) (omega (arith, pow-pos j)),
-          ap (λ (cs : List ℕ). reach m wt cs supply) e,
-          reach-without m wt d (clients-in 6 set) supply,
-        ))
+        (λ (j, b, h, v). let there = has-there set j h in
+        omega (arith, v, known .below (set - 2 ^ j) (omega (arith, pow-pos j)), reach-fewer m wt set j supply h))
         (f .there)
 
     -- where the least hours do not fit, the floor
-    pub value-floor : eqb (bitAnd used 72058693566333184) 0 ≡ false → floor ≡ reach m wt (clients-in 6 set) supply
-    value-floor n = sym (split-floor m wt least (laid .low) (clients-in 6 set) supply floor covers reached (sym (room .clear) ∙ n))
+    pub value-floor : eqb (bitAnd used 72058693566333184) 0 ≡ false → floor ≡ reach m wt (clients-in set) supply
+    value-floor n = sym (split-floor m wt least (laid .low) (clients-in set) supply floor covers reached (sym (room .clear) ∙ n))
 
     -- where they do, by the split
     module _ (y : eqb (bitAnd used 72058693566333184) 0 ≡ true) where
-      pub value-searched : (v : ℕ) → Searched set used floor rows values v → v ≡ reach m wt (clients-in 6 set) supply
+      pub value-searched : (v : ℕ) → Searched set used floor rows values v → v ≡ reach m wt (clients-in set) supply
       value-searched v s =
           let t = sym (room .clear) ∙ y in
           s .is (trimmed least m) wt k (less supply taken) (laid .trims) (room .left t) (ceilings t)
-          ∙ sym (split-value m wt least (laid .low) (clients-in 6 set) supply floor covers reached t)
+          ∙ sym (split-value m wt least (laid .low) (clients-in set) supply floor covers reached t)
 
-      pub value-searchable : (size : ℕ) → size ≡ length (clients-in 6 set) → set < 64 → Searchable size set used floor rows values
-      value-searchable size count few =
+      pub value-searchable : (size : ℕ) → size ≡ length (clients-in set) → 1 ≤ set → set < 64 → Searchable size set used floor rows values
+      value-searchable size count some few =
           let t = sym (room .clear) ∙ y in
           record {
             m = trimmed least m;
@@ -182,6 +188,7 @@ module _ (set used held : ℕ) (rows values : List ℕ) (m : Market) (wt : ℕ �
             ceilings = ceilings t;
             weights-few = laid .weights-few;
             clients-left = count;
+            some-left = omega (arith, some-client set some few);
             set-few = few;
             values-few = values-few;
             floor-few = omega (arith, reached, reach-few m wt (laid .weights-few) set supply);
@@ -197,19 +204,18 @@ values-first m wt supply = record {
 }
 
 pub values-next : (m : Market) (wt : ℕ → ℕ) (supply : List ℕ) (n v : ℕ) (values : List ℕ) → n < 64
-    → v ≡ reach m wt (clients-in 6 n) supply → Values-to m wt supply n values → Values-to m wt supply (n + 1) (set values n v)
+    → v ≡ reach m wt (clients-in n) supply → Values-to m wt supply n values → Values-to m wt supply (n + 1) (set values n v)
 values-next m wt supply n v values l e h =
-    let next = filled-next 64 (λ s. reach m wt (clients-in 6 s) supply) n values v l e
+    let next = filled-next 64 (λ s. reach m wt (clients-in s) supply) n values v l e
     (record { long = h .long; below = h .below; above = h .above }) in
     record { long = next .long; below = next .below; above = next .above }
 
 -- where nobody has a bid, every value is 0
-pub values-none : (m : Market) (wt : ℕ → ℕ) (k : ℕ) (supply : List ℕ) (least : ℕ → List ℕ) (held : ℕ) (rows : List ℕ) → held ≡ 0
-    → Laid-out m wt k least held rows → Values-to m wt supply 64 (replicate 64 0)
+pub values-none : (m : Market) (wt : ℕ → ℕ) (supply : List ℕ) (held : ℕ) → held ≡ 0 → Idle-but m held
+    → Values-to m wt supply 64 (replicate 64 0)
 unfolding reach
-values-none m wt k supply least held rows z laid = record {
+values-none m wt supply held z idle = record {
   long = length-replicate {A = ℕ} 64 0;
-  below = λ s l. zeros-at 64 s
-      ∙ sym (reach-held m wt held (laid .idle) s supply ∙ (rw (z, and-zero-r s, clients-none)));
+  below = λ s l. zeros-at 64 s ∙ sym (reach-held m wt held idle s supply ∙ (rw (z, and-zero-r s, clients-none)));
   above = λ s l. zeros-at 64 s;
 }

@@ -1,4 +1,4 @@
--- Which clients a set picks from a list, in a loop's steps, and the set by slots that says the same. Cited by the proofs of src/lists.rt
+-- Which clients a set picks from a list, in a loop's steps, and the set of clients that says the same. Cited by the proofs of src/lists.rt
 -- and src/table.rt. Assumes nothing.
 use mathlib.Core.Path.{_≡_, refl, sym, ap, fun-ext, _∙_}
 use mathlib.Core.Bool.{Bool, true, false, _&&_, _||_, and-false, or-true, or-false, false≢true, and-eq-true-iff}
@@ -62,50 +62,50 @@ any-none zero p h = refl
 any-none (suc n) p h = rw (h n (omega arith), any-none n p (λ i l. h i (omega arith)))
 
 module _ (cs : List ℕ) (L : ℕ) where
-  -- client 6 - k stands at one of the first j places and is picked
+  -- client 1 + k stands at one of the first j places and is picked
   abbrev pub early : (j k : ℕ) → Bool
-  early j k = any j (λ i. has L i && eqb (at cs i) (6 - k))
+  early j k = any j (λ i. has L i && eqb (at cs i) (1 + k))
 
   -- the byte of no place, and of all
   pub byte-none : 0 ≡ set-of 6 (early 0)
   unfolding any set-of
   byte-none = refl
 
-  pub byte-all : (j byte : ℕ) → j ≡ length cs → byte ≡ set-of 6 (early j) → byte ≡ set-of 6 (λ k. picked cs L (6 - k))
+  pub byte-all : (j byte : ℕ) → j ≡ length cs → byte ≡ set-of 6 (early j) → byte ≡ set-of 6 (λ k. picked cs L (1 + k))
   unfolding picked
   byte-all j byte e b = b ∙ ap (λ (n : ℕ). set-of 6 (early n)) e
 
   -- one place more
-  early-next : (j k : ℕ) → early (j + 1) k ≡ (early j k || (has L j && eqb (at cs j) (6 - k)))
+  early-next : (j k : ℕ) → early (j + 1) k ≡ (early j k || (has L j && eqb (at cs j) (1 + k)))
   unfolding any
   early-next j k = rw (add-one j)
 
   module _ (j : ℕ) (t : rising-to 6 0 cs ≡ true) (l : j < length cs) where
-    later : (k : ℕ) → k ≢ 6 - at cs j → early (j + 1) k ≡ early j k
+    later : (k : ℕ) → k ≢ at cs j - 1 → early (j + 1) k ≡ early j k
     later k n =
         let r = rising-range 6 0 cs t j l in
-        early-next j k ∙ rw (ne-eqb (at cs j) (6 - k) (λ q. n (omega arith)), and-false (has L j)) (or-false (early j k))
+        early-next j k ∙ rw (ne-eqb (at cs j) (1 + k) (λ q. n (omega arith)), and-false (has L j)) (or-false (early j k))
 
-    absent : early j (6 - at cs j) ≡ false
+    absent : early j (at cs j - 1) ≡ false
     absent =
         let r = rising-range 6 0 cs t j l in
-        any-none j _ (λ i h. rw (ne-eqb (at cs i) (6 - (6 - at cs j)) (λ q. omega (arith, rising-apart 6 0 cs t i j h l)))
+        any-none j _ (λ i h. rw (ne-eqb (at cs i) (1 + (at cs j - 1)) (λ q. omega (arith, rising-apart 6 0 cs t i j h l)))
         (and-false (has L i)))
 
-    present : has L j ≡ true → early (j + 1) (6 - at cs j) ≡ true
+    present : has L j ≡ true → early (j + 1) (at cs j - 1) ≡ true
     present y =
         let r = rising-range 6 0 cs t j l in
-        early-next j (6 - at cs j) ∙ rw (y, eq-eqb (at cs j) (6 - (6 - at cs j)) (omega arith)) (or-true (early j (6 - at cs j)))
+        early-next j (at cs j - 1) ∙ rw (y, eq-eqb (at cs j) (1 + (at cs j - 1)) (omega arith)) (or-true (early j (at cs j - 1)))
 
   -- a set without the place keeps its byte, and one with it has the client's bit more
   pub byte-without : (j : ℕ) → has L j ≡ false → set-of 6 (early j) ≡ set-of 6 (early (j + 1))
   byte-without j y = ap (λ (f : ℕ → Bool). set-of 6 f) (fun-ext (λ k. sym (early-next j k ∙ rw y (or-false (early j k)))))
 
   pub byte-with : (j : ℕ) → rising-to 6 0 cs ≡ true → j < length cs → has L j ≡ true
-      → set-of 6 (early j) + 2 ^ (6 - at cs j) ≡ set-of 6 (early (j + 1))
+      → set-of 6 (early j) + 2 ^ (at cs j - 1) ≡ set-of 6 (early (j + 1))
   byte-with j t l y =
       let r = rising-range 6 0 cs t j l in
-      set-of-add 6 (6 - at cs j) (early j) (early (j + 1)) (omega arith) (absent j t l) (present j t l y) (later j t l)
+      set-of-add 6 (at cs j - 1) (early j) (early (j + 1)) (omega arith) (absent j t l) (present j t l y) (later j t l)
 
 -- the clients of a list are from 1 to 6
 pub listed-range : (clients : List ℕ) (count j : ℕ) → Rising-list clients count → length clients ≡ 6 → j < count → (1 ≤ getD clients j 0)

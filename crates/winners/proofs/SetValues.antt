@@ -23,7 +23,7 @@ use Rattle.winners.specs.Passes.{Values-to}
 use Rattle.winners.specs.Surplus.{picked, surplus}
 use Rattle.winners.specs.Surpluses.{surplus-table}
 use Rattle.winners.specs.ClientLists.{Discards, Sigma-found}
-use Rattle.winners.specs.Trims.{searched}
+use Rattle.winners.specs.Rows.{searched}
 use Rattle.winners.proofs.Greatest.{greatest-all}
 use Rattle.winners.proofs.Most.{greatest-most}
 use Rattle.winners.proofs.Picks.{byte-small, picked-none}
@@ -58,7 +58,7 @@ module _ (b : Book) (s : Sound b) (d : ℕ) (values : List ℕ) (v : Values-to (
   -- the value of all clients
   pub all-value : getD values 63 0 ≡ greatest b d
   unfolding greatest
-  all-value = set-greatest b s d 63 (discarded d) values (omega arith) v (λ c l u. rw (has-all (6 - c) (omega arith)))
+  all-value = set-greatest b s d 63 (discarded d) values (omega arith) v (λ c l u. rw (has-all (c - 1) (omega arith)))
 
   pub all-few : getD values 63 0 ≤ 6000000
   all-few = omega (arith, all-value, greatest-most b s d)
@@ -90,7 +90,7 @@ sigma-done value values ds set end sigma e l f = record { long = f .long; each =
 pub discards-few : (clients ds : List ℕ) (count end : ℕ) → Discards clients count ds → end ≡ 2 ^ count
     → (L : ℕ) → L < end → getD ds L 0 < 64
 discards-few clients ds count end h e L l =
-    rw (h L (omega arith)) (byte-small 6 (λ j. picked (take count clients) L (6 - j)) (omega arith))
+    rw (h L (omega arith)) (byte-small 6 (λ j. picked (take count clients) L (1 + j)) (omega arith))
 
 -- THE TABLE
 module _ (b : Book) (cs : List ℕ) where
@@ -104,13 +104,13 @@ module _ (b : Book) (cs : List ℕ) where
 
   -- σ of a set, by the value of all others
   surplus-set : Sound b → (L v d : ℕ) (values : List ℕ) → Values-to (searched b 0) (amount-of b) (supplies b) 64 values → v ≡ greatest b 0
-      → d ≡ set-of 6 (λ j. picked cs L (6 - j)) → v - getD values (63 - d) 0 ≡ surplus b cs L
+      → d ≡ set-of 6 (λ j. picked cs L (1 + j)) → v - getD values (63 - d) 0 ≡ surplus b cs L
   unfolding surplus
   surplus-set s L v d values h ev ed =
       ap₂ (λ (x y : ℕ). x - y) ev
       (set-greatest b s 0 (63 - d) (picked cs L) values (omega arith) h
-      (λ c l u. let back : 6 - (6 - c) ≡ c = omega arith in
-      rw (none-out c, has-rest d (λ j. picked cs L (6 - j)) ed (6 - c) (omega arith), back) (and-true (not (picked cs L c)))))
+      (λ c l u. let back : 1 + (c - 1) ≡ c = omega arith in
+      rw (none-out c, has-rest d (λ j. picked cs L (1 + j)) ed (c - 1) (omega arith), back) (and-true (not (picked cs L c)))))
 
 -- the whole table
 pub table-done : (b : Book) (clients ds sigma values : List ℕ) (count end v : ℕ) → Sound b → Discards clients count ds → end ≡ 2 ^ count

@@ -1,5 +1,5 @@
 -- Least hours added up from set to set: whether those of one client more fit the supply, and what they leave. Cited by the proofs of
--- src/taken.rt. Assumes nothing.
+-- src/pass.rt. Assumes nothing.
 use mathlib.Core.Path.{_≡_, refl, sym, ap, _∙_}
 use mathlib.Core.Bool.{true, false, cond, true≢false}
 use mathlib.Core.List.{List, [], _∷_}
@@ -10,17 +10,17 @@ use native.Mathlib.Decide.{ℕ-discrete}
 use native.Mathlib.Omega.{arith}
 use lib.Bits.{bitAnd}
 use lib.Dec.{eqb}
-use lib.ListN.{length, getD, set}
+use lib.ListN.{length, getD, set, replicate, getD-replicate}
 use lib.Seq.{ext-getD, getD-set-same, getD-set-other}
 use Rattle.market.specs.Market.{fits, less}
 use Rattle.market.specs.Members.{more, leasts}
 use Rattle.market.proofs.Bools.{either}
 use Rattle.market.proofs.Hours.{less-length, less-at, fits-at, fits-if}
 use Rattle.market.proofs.Adding.{more-length, more-at, fits-length}
-use Rattle.winners.specs.ClientSets.{Highest}
+use Rattle.winners.specs.ClientSets.{clients-in, First, Within}
 use Rattle.winners.specs.Lanes.{packed, Asked, Left}
 use Rattle.winners.specs.Taken.{Room, Leasts-held, Taken-to}
-use Rattle.winners.proofs.ClientSets.{clients-none, clients-first, others-less}
+use Rattle.winners.proofs.ClientSets.{clients-none, clients-first, others-less, fewer-within}
 use Rattle.winners.proofs.LaneSums.{fit-says, used-most}
 use Rattle.winners.proofs.LanesLeft.{fit-here, left-after}
 
@@ -94,20 +94,31 @@ pub room-few : (k : ℕ) (supply hs : List ℕ) (x : ℕ) → Room k supply hs x
 room-few k supply hs x r t = omega (arith, r .left (sym (r .clear) ∙ t) .lanes, used-most (less supply hs))
 
 -- SET AFTER SET
-module _ (k : ℕ) (supply : List ℕ) (least : ℕ → List ℕ) where
-  pub taken-first : (used : ℕ) (xs : List ℕ) → 0 < length xs → Left k supply used → Taken-to k supply least 1 (set xs 0 used)
+module _ (k : ℕ) (supply : List ℕ) (least : ℕ → List ℕ) (held : ℕ) where
+  pub taken-first : (used : ℕ) → Left k supply used → Taken-to k supply least held 1 (replicate 64 used)
   unfolding leasts
-  taken-first used xs l h s b =
+  taken-first used h s b w =
       let z : s ≡ 0 = omega arith in
-      rw (z, getD-set-same xs 0 used 0 l, clients-none) (room-none k supply used h)
+      rw (z, getD-replicate {A = ℕ} 64 0 used 0 (omega arith), clients-none) (room-none k supply used h)
 
-  pub taken-next : (s t after : ℕ) (numbers xs : List ℕ) → s < length xs → Highest s t → Leasts-held k least numbers
-      → after ≡ cond (eqb (bitAnd (getD xs (s - 2 ^ (t - 1)) 0) 72058693566333184) 0)
-      (getD xs (s - 2 ^ (t - 1)) 0 + getD numbers t 0) (getD xs (s - 2 ^ (t - 1)) 0)
-      → Taken-to k supply least s xs → Taken-to k supply least (s + 1) (set xs s after)
-  unfolding leasts
-  taken-next s t after numbers xs l h a e f j b = elim (ℕ-discrete j s) [
-    | yes q ↦ rw (q, getD-set-same xs s after 0 l, clients-first s t h)
-        (room-next k supply (least (7 - t)) _ _ _ after (a t (h .low) (h .high)) e (f (s - 2 ^ (t - 1)) (others-less s t h)))
-    | no q ↦ rw (getD-set-other xs s j after 0 q) (f j (omega arith))
-  ]
+  -- one set more, of the least hours of its first client and of the others'
+  module _ (s c : ℕ) (numbers xs : List ℕ) (f : First s c) (a : Leasts-held k least numbers) (t : Taken-to k supply least held s xs) where
+    pub others-room : Within s held → Room k supply (leasts least (clients-in (s - 2 ^ (c - 1)))) (getD xs (s - 2 ^ (c - 1)) 0)
+    others-room w = t (s - 2 ^ (c - 1)) (others-less s c f) (λ j h. w j (fewer-within s (c - 1) (f .there) j h))
+
+    module _ (after : ℕ) (w : Within s held)
+        (e : after ≡ cond (eqb (bitAnd (getD xs (s - 2 ^ (c - 1)) 0) 72058693566333184) 0)
+        (getD xs (s - 2 ^ (c - 1)) 0 + getD numbers c 0) (getD xs (s - 2 ^ (c - 1)) 0)) where
+      pub set-room : Room k supply (leasts least (clients-in s)) after
+      unfolding leasts
+      set-room = rw (clients-first s c f) (room-next k supply (least c) _ _ _ after (a c (f .low) (f .high)) e (others-room w))
+
+      pub taken-next : s < length xs → Taken-to k supply least held (s + 1) (set xs s after)
+      taken-next l j b v = elim (ℕ-discrete j s) [
+        | yes q ↦ rw (q, getD-set-same xs s after 0 l) set-room
+        | no q ↦ rw (getD-set-other xs s j after 0 q) (t j (omega arith) v)
+      ]
+
+  -- a set of which some client has no bid is passed over
+  pub taken-passed : (s : ℕ) (xs : List ℕ) → (Within s held → ⊥) → Taken-to k supply least held s xs → Taken-to k supply least held (s + 1) xs
+  taken-passed s xs n t j b v = elim (ℕ-discrete j s) [ yes q ↦ absurd (n (rw q at v)) | no q ↦ t j (omega arith) v ]

@@ -1,8 +1,7 @@
 -- Least hours found and taken off, bid by bid, and the row that is then at a slot. Cited by the proofs of src/trims.rt. Assumes nothing.
 use mathlib.Core.Path.{_≡_, refl, sym, ap, _∙_}
-use mathlib.Core.Bool.{Bool, true, false, cond, false≢true}
+use mathlib.Core.Bool.{cond}
 use mathlib.Core.List.{List, [], _∷_}
-use mathlib.Core.Logic.{_≢_}
 use Prim.Native.Nat.{ℕ, zero, suc, _+_, _*_, _-_, _≤_, _<_}
 use native.Mathlib.Decide.{ℕ-discrete}
 use native.Mathlib.Omega.{arith}
@@ -11,8 +10,7 @@ use lib.Dec.{ltb}
 use lib.ListN.{length, getD, set, replicate, length-set, length-replicate}
 use lib.Seq.{getD-set-same, getD-set-other}
 use Rattle.sets.proofs.Filled.{zeros-at}
-use Rattle.market.specs.Market.{Market, at, less}
-use Rattle.market.specs.Members.{Falling, Row-of}
+use Rattle.market.specs.Market.{at, less}
 use Rattle.market.proofs.Adding.{fits-trans}
 use Rattle.market.proofs.RowOf.{row-trimmed}
 use Rattle.winners.specs.Lanes.{packed, Asked, Smaller-lanes}
@@ -37,18 +35,18 @@ asked-few k hs a l h = omega (arith, h .packs, packed-most hs (omega (arith, h .
 
 module _ (t : ℕ) (xs : List ℕ) where
   -- to begin with, the first bid's hours; none where there is none
-  pub least-first : (first least : ℕ) → first ≡ getD xs (56 + 8 * t) 0 → least ≡ cond (ltb 0 (getD xs (112 + t) 0)) first 0
+  pub least-first : (first least : ℕ) → first ≡ getD xs (16 * t + 1) 0 → least ≡ cond (ltb 0 (getD xs (112 + t) 0)) first 0
       → Least-to t 0 xs least
   least-first first least ef el m wt k n [] few h =
       let none : least ≡ 0 = el ∙ (rw (le-ltb 0 (getD xs (112 + t) 0) (omega (arith, h .count)))) in
       (replicate k 0, rw none (none-asked k), λ e l. absurd (omega arith))
   least-first first least ef el m wt k n (i ∷ row) few h =
       let some : least ≡ first = el ∙ (rw (lt-ltb 0 (getD xs (112 + t) 0) (omega (arith, h .count)))) in
-      let here : 56 + (8 * t + 0) ≡ 56 + 8 * t = omega arith in
+      let here : 16 * t + 2 * 0 + 1 ≡ 16 * t + 1 = omega arith in
       (m .hours i, rw (some, ef) (rw here at (h .asks 0 (omega arith))), λ e l. absurd (omega arith))
 
   -- then the smaller of them and of each bid's
-  pub least-next : (d least now : ℕ) → d < getD xs (112 + t) 0 → Smaller-lanes least (getD xs (56 + (8 * t + d)) 0) now
+  pub least-next : (d least now : ℕ) → d < getD xs (112 + t) 0 → Smaller-lanes least (getD xs (16 * t + 2 * d + 1) 0) now
       → Least-to t d xs least
       → Least-to t (d + 1) xs now
   least-next d least now l s f m wt k n row few h =
@@ -68,7 +66,7 @@ module _ (t : ℕ) (xs : List ℕ) where
       let (hs, a, fit) = f m wt k n row few h in (hs, a, λ e u v. fit e (omega (arith, h .count)) v)
 
   -- what is read is in lanes
-  pub some-asked : (d : ℕ) → Some-row t xs → d < getD xs (112 + t) 0 → getD xs (56 + (8 * t + d)) 0 ≤ 71777214294589695
+  pub some-asked : (d : ℕ) → Some-row t xs → d < getD xs (112 + t) 0 → getD xs (16 * t + 2 * d + 1) 0 ≤ 71777214294589695
   some-asked d r l = asked-few (r .k) _ _ (r .kinds-few) (r .held .asks d (omega (arith, r .held .count)))
 
   pub some-least : (d least : ℕ) → Some-row t xs → Least-to t d xs least → least ≤ 71777214294589695
@@ -79,118 +77,48 @@ module _ (t : ℕ) (xs : List ℕ) where
 pub off-none : (t least : ℕ) (xs : List ℕ) → length xs ≡ 119 → Taken-off t 0 least xs xs
 off-none t least xs long = record { long = long; less-asked = λ e l. absurd (omega arith); outside = λ p o. refl }
 
-pub off-next : (t d least v : ℕ) (xs zs : List ℕ) → t ≤ 6 → d < 8 → v ≡ getD zs (56 + (8 * t + d)) 0 - least → Taken-off t d least xs zs
-    → Taken-off t (d + 1) least xs (set zs (56 + (8 * t + d)) v)
+pub off-next : (t d least v : ℕ) (xs zs : List ℕ) → t ≤ 6 → d < 8 → v ≡ getD zs (16 * t + 2 * d + 1) 0 - least → Taken-off t d least xs zs
+    → Taken-off t (d + 1) least xs (set zs (16 * t + 2 * d + 1) v)
 off-next t d least v xs zs near few ev o =
-    let q = 56 + (8 * t + d) in
+    let q = 16 * t + 2 * d + 1 in
     let long = o .long in
     record {
       long = length-set zs q v ∙ long;
       less-asked = λ e l. elim (ℕ-discrete e d) [
         | yes z ↦ rw z (getD-set-same zs q v 0 (omega arith) ∙ ev
             ∙ ap (λ (x : ℕ). x - least) (o .outside q (λ e b z. omega arith)))
-        | no z ↦ getD-set-other zs q (56 + (8 * t + e)) v 0 (λ y. z (omega arith)) ∙ o .less-asked e (omega arith)
+        | no z ↦ getD-set-other zs q (16 * t + 2 * e + 1) v 0 (λ y. z (omega arith)) ∙ o .less-asked e (omega arith)
       ];
       outside = λ p out. getD-set-other zs q p v 0 (out d (omega arith)) ∙ o .outside p (λ e l. out e (omega arith));
     }
 
--- THE ROW SETTLED: its count is stored anew, then its least hours are taken off
-module _ (on : Bool) (t count least : ℕ) (xs ys : List ℕ) (near : t ≤ 6) (long : length xs ≡ 119)
-    (ec : count ≡ cond on (getD xs (112 + t) 0) 0) where
-  abbrev counted : List ℕ
-  counted = set xs (112 + t) count
-
-  counted-here : getD counted (112 + t) 0 ≡ count
-  counted-here = getD-set-same xs (112 + t) count 0 (omega arith)
-
-  counted-other : (p : ℕ) → p ≢ 112 + t → getD counted p 0 ≡ getD xs p 0
-  counted-other p n = getD-set-other xs (112 + t) p count 0 n
-
-  -- the row of a market whose client's bids are these, or none
-  kept : (on′ : Bool) → count ≡ cond on′ (getD xs (112 + t) 0) 0 → (m m′ : Market) (wt : ℕ → ℕ) (k n : ℕ) (row : List ℕ)
-      → Row-held m wt k n t xs row
-      → ((i : ℕ) → m′ .hours i ≡ m .hours i) → Row-of m′ n (7 - t) (cond on′ row []) → Row-held m′ wt k n t counted (cond on′ row [])
-  unfolding Falling
-  kept true e m m′ wt k n row h same r = record {
-    holds = r;
-    falls = h .falls;
-    count = counted-here ∙ e ∙ h .count;
-    few = h .few;
-    weighs = λ d l. counted-other (8 * t + d) (λ z. omega (arith, h .few)) ∙ h .weighs d l;
-    asks = λ d l. rw (counted-other (56 + (8 * t + d)) (λ z. omega (arith, h .few)), same (at row d)) (h .asks d l);
-  }
-  kept false e m m′ wt k n row h same r = record {
-    holds = r;
-    falls = λ j l. absurd (omega arith);
-    count = counted-here ∙ e;
-    few = omega arith;
-    weighs = λ d l. absurd (omega arith);
-    asks = λ d l. absurd (omega arith);
-  }
-
-  -- some market's row is there
-  some-of : (on′ : Bool) → count ≡ cond on′ (getD xs (112 + t) 0) 0 → Some-row t xs → Some-row t counted
-  some-of true e r = record {
-    m = r .m;
-    wt = r .wt;
-    k = r .k;
-    n = r .n;
-    row = r .row;
-    kinds-few = r .kinds-few;
-    held = kept true e (r .m) (r .m) (r .wt) (r .k) (r .n) (r .row) (r .held) (λ i. refl) (r .held .holds);
-  }
-  some-of false e r =
-      let shut : Market = record { bids = r .m .bids; owner = r .m .owner; hours = r .m .hours; may = λ i. false } in
-      record {
-        m = shut;
-        wt = r .wt;
-        k = r .k;
-        n = r .n;
-        row = [];
-        kinds-few = r .kinds-few;
-        held = kept false e (r .m) shut (r .wt) (r .k) (r .n) (r .row) (r .held) (λ i. refl)
-            (record {
-              numbers = λ d l. absurd (omega arith);
-              owners = λ d l. absurd (omega arith);
-              eligible = λ d l. absurd (omega arith);
-              whole = λ i l u own may. absurd (false≢true may);
-            });
-      }
-
-  pub settle-some : Some-row t xs → Some-row t counted
-  settle-some r = some-of on ec r
-
-  pub settle-few : Some-row t xs → getD counted (112 + t) 0 ≤ 8
-  settle-few r = let s = settle-some r in omega (arith, s .held .count, s .held .few)
-
-  module _ (few : getD counted (112 + t) 0 ≤ 8) (found : Least-to t 8 counted least)
-      (off : Taken-off t (getD counted (112 + t) 0) least counted ys) where
-    pub settled-there : Settled on t xs ys least
-    settled-there = record {
-      long = off .long;
-      others = λ s l n. record {
-        count = off .outside (112 + s) (λ e b z. omega arith) ∙ counted-other (112 + s) (λ z. n (omega arith));
-        weights = λ d b. off .outside (8 * s + d) (λ e c z. omega arith) ∙ counted-other (8 * s + d) (λ z. omega arith);
-        hours = λ d b. off .outside (56 + (8 * s + d)) (λ e c z. n (omega arith)) ∙ counted-other (56 + (8 * s + d)) (λ z. omega arith);
-      };
-      trims = λ m m′ wt k n row kinds h same r.
-          let left = cond on row [] in
-          let held = kept on ec m m′ wt k n row h same r in
-          let (hs, a, fit) = found m′ wt k n left kinds held in
-          let most = held .few in
-          record {
-            row = left;
-            least = hs;
-            asked = a;
-            low = λ d l. fit d (omega arith) l;
-            held = record {
-              holds = row-trimmed m′ (λ c. hs) n (7 - t) left (held .holds);
-              falls = held .falls;
-              count = off .outside (112 + t) (λ e b z. omega arith) ∙ held .count;
-              few = most;
-              weighs = λ d l. off .outside (8 * t + d) (λ e b z. omega arith) ∙ held .weighs d l;
-              asks = λ d l. rw (off .less-asked d (omega (arith, held .count)))
-                  (asked-less k (m′ .hours (at left d)) hs _ least (fit d (omega arith) l) (held .asks d l) (a .packs));
-            };
+-- THE ROW SETTLED
+module _ (t least : ℕ) (xs ys : List ℕ) (near : t ≤ 6) (few : getD xs (112 + t) 0 ≤ 8) (found : Least-to t 8 xs least)
+    (off : Taken-off t (getD xs (112 + t) 0) least xs ys) where
+  pub settled-there : Settled t xs ys least
+  settled-there = record {
+    long = off .long;
+    others = λ s l n. record {
+      count = off .outside (112 + s) (λ e b z. omega arith);
+      weights = λ d b. off .outside (16 * s + 2 * d) (λ e c z. omega arith);
+      hours = λ d b. off .outside (16 * s + 2 * d + 1) (λ e c z. n (omega arith));
+    };
+    trims = λ m wt k n row kinds h.
+        let (hs, a, fit) = found m wt k n row kinds h in
+        let most = h .few in
+        record {
+          row = row;
+          least = hs;
+          asked = a;
+          low = λ d l. fit d (omega arith) l;
+          held = record {
+            holds = row-trimmed m (λ c. hs) n t row (h .holds);
+            falls = h .falls;
+            count = off .outside (112 + t) (λ e b z. omega arith) ∙ h .count;
+            few = most;
+            weighs = λ d l. off .outside (16 * t + 2 * d) (λ e b z. omega arith) ∙ h .weighs d l;
+            asks = λ d l. rw (off .less-asked d (omega (arith, h .count)))
+                (asked-less k (m .hours (at row d)) hs _ least (fit d (omega arith) l) (h .asks d l) (a .packs));
           };
-    }
+        };
+  }

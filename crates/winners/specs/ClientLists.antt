@@ -27,9 +27,9 @@ pub record Doubled (discards : List ℕ) (end bit set : ℕ) (out : List ℕ) : 
   pub kept : (L : ℕ) → L < end → getD out L 0 ≡ getD discards L 0
   pub added : (L : ℕ) → L < set → getD out (end + L) 0 ≡ getD discards L 0 + bit
 
--- by set number, the clients that the set picks from the list, as a set by slots
+-- by set number, the clients that the set picks from the list, as a set
 abbrev pub Discards : (clients : List ℕ) → (count : ℕ) → List ℕ → Type 0
-Discards cs w ds = (L : ℕ) → L < 2 ^ w → getD ds L 0 ≡ set-of 6 (λ j. picked (take w cs) L (6 - j))
+Discards cs w ds = (L : ℕ) → L < 2 ^ w → getD ds L 0 ≡ set-of 6 (λ j. picked (take w cs) L (1 + j))
 
 -- by set number, from 1 on and below `end`, what a value exceeds the value of the clients that are not picked by; 0 for every other number
 pub record Sigma-found (value : ℕ) (values discards : List ℕ) (end : ℕ) (sigma : List ℕ) : Type 0 where

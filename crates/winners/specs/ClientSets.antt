@@ -1,18 +1,23 @@
--- Sets of clients as numbers below 64, by slots: bit j stands for the client of slot j + 1, which is client 6 - j. So the sets of the last
--- clients have the lowest numbers. Cited by what private functions ask and answer. Assumes nothing: these are definitions.
-use mathlib.Core.Bool.{cond}
-use mathlib.Core.List.{List, [], _∷_}
-use Prim.Native.Nat.{ℕ, zero, suc, _-_, _^_, _≤_, _<_}
+-- Sets of clients as numbers below 64: bit c - 1 stands for client c. Cited by what private functions ask and answer. Assumes nothing:
+-- these are definitions.
+use mathlib.Core.Path.{_≡_}
+use mathlib.Core.Bool.{true, false}
+use mathlib.Core.List.{List}
+use Prim.Native.Nat.{ℕ, _-_, _≤_, _<_}
 use Rattle.sets.specs.Sets.{has}
+use Rattle.market.specs.Members.{members}
 
--- a set's clients of the slots 1 to t, by rising client
-unfoldable pub clients-in : (t set : ℕ) → List ℕ
-clients-in zero s = []
-clients-in (suc t) s = let rest = clients-in t s in cond (has s t) ((6 - t) ∷ rest) rest
+-- a set's clients, by rising client
+abbrev pub clients-in : (set : ℕ) → List ℕ
+clients-in s = members (λ c. has s (c - 1)) 6 1
 
--- t is the highest slot of the set: that of its first client
-pub record Highest (set t : ℕ) : Type 0 where
-  pub low : 1 ≤ t
-  pub high : t ≤ 6
-  pub there : 2 ^ (t - 1) ≤ set
-  pub below : set < 2 ^ t
+-- c is the set's first client
+pub record First (set c : ℕ) : Type 0 where
+  pub low : 1 ≤ c
+  pub high : c ≤ 6
+  pub there : has set (c - 1) ≡ true
+  pub none : (j : ℕ) → j < c - 1 → has set j ≡ false
+
+-- every client of the set is one of the other
+abbrev pub Within : (set other : ℕ) → Type 0
+Within s o = (j : ℕ) → has s j ≡ true → has o j ≡ true

@@ -3,13 +3,13 @@
 use mathlib.Core.Path.{_≡_}
 use mathlib.Core.Bool.{true}
 use mathlib.Core.List.{List}
-use Prim.Native.Nat.{ℕ, _-_, _≤_, _<_}
+use Prim.Native.Nat.{ℕ, _≤_, _<_}
 use lib.Bits.{bitAnd}
 use lib.Dec.{eqb}
 use lib.ListN.{getD}
 use Rattle.market.specs.Market.{fits, less}
 use Rattle.market.specs.Members.{leasts}
-use Rattle.winners.specs.ClientSets.{clients-in}
+use Rattle.winners.specs.ClientSets.{clients-in, Within}
 use Rattle.winners.specs.Lanes.{guards, Asked, Left}
 
 -- a number has its guards clear if and only if hours fit the supply, and holds then what is used once they are taken
@@ -17,18 +17,11 @@ pub record Room (k : ℕ) (supply hours : List ℕ) (number : ℕ) : Type 0 wher
   pub clear : eqb (bitAnd number guards) 0 ≡ fits hours supply
   pub left : fits hours supply ≡ true → Left k (less supply hours) number
 
--- numbers by slot hold the clients' least hours
+-- numbers by client hold the clients' least hours
 abbrev pub Leasts-held : (k : ℕ) → (least : ℕ → List ℕ) → (numbers : List ℕ) → Type 0
-Leasts-held k least xs = (t : ℕ) → 1 ≤ t → t ≤ 6 → Asked k (least (7 - t)) (getD xs t 0)
+Leasts-held k least xs = (c : ℕ) → 1 ≤ c → c ≤ 6 → Asked k (least c) (getD xs c 0)
 
--- a supply, and least hours that stand by slot
-pub record Supply-held (used : ℕ) (numbers : List ℕ) : Type 0 where
-  pub k : ℕ
-  pub supply : List ℕ
-  pub least : ℕ → List ℕ
-  pub left : Left k supply used
-  pub held : Leasts-held k least numbers
-
--- for each set below n, whether its clients' least hours fit the supply, and what they leave
-abbrev pub Taken-to : (k : ℕ) (supply : List ℕ) (least : ℕ → List ℕ) (n : ℕ) (taken : List ℕ) → Type 0
-Taken-to k supply least n xs = (set : ℕ) → set < n → Room k supply (leasts least (clients-in 6 set)) (getD xs set 0)
+-- for each set below n of clients of one set, whether its clients' least hours fit the supply, and what they leave
+abbrev pub Taken-to : (k : ℕ) (supply : List ℕ) (least : ℕ → List ℕ) (held n : ℕ) (taken : List ℕ) → Type 0
+Taken-to k supply least held n xs =
+    (set : ℕ) → set < n → Within set held → Room k supply (leasts least (clients-in set)) (getD xs set 0)

@@ -1,21 +1,17 @@
 -- Least hours: for each client the least hours of each kind among its bids, which are taken off them. Cited by what private functions ask
 -- and answer. Assumes nothing: these are definitions.
 use mathlib.Core.Path.{_≡_}
-use mathlib.Core.Bool.{Bool, true, cond}
-use mathlib.Core.List.{List, []}
+use mathlib.Core.Bool.{true}
+use mathlib.Core.List.{List}
 use mathlib.Core.Logic.{_≢_}
-use Prim.Native.Nat.{ℕ, _+_, _*_, _-_, _≤_, _<_}
+use Prim.Native.Nat.{ℕ, _+_, _-_, _≤_, _<_}
 use lib.ListN.{length, getD}
-use Rattle.book.specs.Book.{Book, supplies}
 use Rattle.market.specs.Market.{Market, at, fits}
-use Rattle.market.specs.Members.{Row-of, trimmed}
-use Rattle.market.specs.Restrict.{fitted}
-use Rattle.winners.specs.Combinations.{amount-of}
-use Rattle.winners.specs.Greatest.{without, discarded}
+use Rattle.market.specs.Members.{trimmed}
 use Rattle.winners.specs.Lanes.{Asked}
-use Rattle.winners.specs.Rows.{row-room, asked-from, counts-from, rows-end, Row-held}
+use Rattle.winners.specs.Rows.{row-room, weight-at, asked-at, counts-from, rows-end, Row-held}
 
--- some market whose row stands at slot t
+-- some market that client t's row is of
 pub record Some-row (t : ℕ) (rows : List ℕ) : Type 0 where
   pub m : Market
   pub wt : ℕ → ℕ
@@ -25,27 +21,27 @@ pub record Some-row (t : ℕ) (rows : List ℕ) : Type 0 where
   pub kinds-few : k ≤ 4
   pub held : Row-held m wt k n t rows row
 
--- a number holds hours that each of the first d bids of the row at slot t asks for at least, in whatever market the row is of
+-- a number holds hours that each of the first d bids of the row of client t asks for at least, in whatever market the row is of
 abbrev pub Least-to : (t d : ℕ) → (rows : List ℕ) → (least : ℕ) → Type 0
 Least-to t d rows least =
     (m : Market) (wt : ℕ → ℕ) (k n : ℕ) (row : List ℕ) → k ≤ 4 → Row-held m wt k n t rows row
     → (hours : List ℕ) × Asked k hours least × ((e : ℕ) → e < d → e < length row → fits hours (m .hours (at row e)) ≡ true)
 
--- the first d bids of the row at slot t ask for a number less, and all else is as it was
+-- the first d bids of the row of client t ask for a number less, and all else is as it was
 pub record Taken-off (t d least : ℕ) (before after : List ℕ) : Type 0 where
   pub long : length after ≡ rows-end
   pub less-asked : (e : ℕ) → e < d
-      → getD after (asked-from + (row-room * t + e)) 0 ≡ getD before (asked-from + (row-room * t + e)) 0 - least
-  pub outside : (p : ℕ) → ((e : ℕ) → e < d → p ≢ asked-from + (row-room * t + e)) → getD after p 0 ≡ getD before p 0
+      → getD after (asked-at t e) 0 ≡ getD before (asked-at t e) 0 - least
+  pub outside : (p : ℕ) → ((e : ℕ) → e < d → p ≢ asked-at t e) → getD after p 0 ≡ getD before p 0
 
--- the row at slot t is as it was
+-- the row of client t is as it was
 pub record Same-row (t : ℕ) (before after : List ℕ) : Type 0 where
   pub count : getD after (counts-from + t) 0 ≡ getD before (counts-from + t) 0
-  pub weights : (d : ℕ) → d < row-room → getD after (row-room * t + d) 0 ≡ getD before (row-room * t + d) 0
+  pub weights : (d : ℕ) → d < row-room → getD after (weight-at t d) 0 ≡ getD before (weight-at t d) 0
   pub hours : (d : ℕ) → d < row-room
-      → getD after (asked-from + (row-room * t + d)) 0 ≡ getD before (asked-from + (row-room * t + d)) 0
+      → getD after (asked-at t d) 0 ≡ getD before (asked-at t d) 0
 
--- the row at slot t has its client's least hours taken off, which a number holds
+-- the row of client t has its client's least hours taken off, which a number holds
 pub record Row-trimmed (m : Market) (wt : ℕ → ℕ) (k n t : ℕ) (rows : List ℕ) (number : ℕ) : Type 0 where
   pub row : List ℕ
   pub least : List ℕ
@@ -53,18 +49,12 @@ pub record Row-trimmed (m : Market) (wt : ℕ → ℕ) (k n t : ℕ) (rows : Lis
   pub low : (d : ℕ) → d < length row → fits least (m .hours (at row d)) ≡ true
   pub held : Row-held (trimmed (λ c. least) m) wt k n t rows row
 
--- the row at slot t is settled: emptied where its client is not `on`, and its least hours taken off; all other rows are as they were
-pub record Settled (on : Bool) (t : ℕ) (before after : List ℕ) (number : ℕ) : Type 0 where
+-- the row of client t is settled: its least hours are taken off; all other rows are as they were
+pub record Settled (t : ℕ) (before after : List ℕ) (number : ℕ) : Type 0 where
   pub long : length after ≡ rows-end
   pub others : (s : ℕ) → s ≤ 6 → s ≢ t → Same-row s before after
-  pub trims : (m m′ : Market) (wt : ℕ → ℕ) (k n : ℕ) (row : List ℕ) → k ≤ 4 → Row-held m wt k n t before row
-      → ((i : ℕ) → m′ .hours i ≡ m .hours i) → Row-of m′ n (7 - t) (cond on row []) → Row-trimmed m′ wt k n t after number
+  pub trims : (m : Market) (wt : ℕ → ℕ) (k n : ℕ) (row : List ℕ) → k ≤ 4 → Row-held m wt k n t before row → Row-trimmed m wt k n t after number
 
--- the market that is searched: without the clients that are discarded, and without the bids that never fit
-abbrev pub searched : Book → (discard : ℕ) → Market
-searched b d = fitted 7 (supplies b) (without b (discarded d))
-
--- the rows from slot 1 up to slot n - 1 of that market, by falling weight and with their least hours, which stand by slot, taken off
-pub record Trimmed-to (b : Book) (discard n : ℕ) (rows leasts : List ℕ) : Type 0 where
-  pub each : (t : ℕ) → 1 ≤ t → t < n
-      → Row-trimmed (searched b discard) (amount-of b) (length (b .kinds)) (length (b .bids)) t rows (getD leasts t 0)
+-- the rows from that of client 1 up to that of client end - 1, with their least hours, which stand by client, taken off
+abbrev pub Trimmed-to : (m : Market) (wt : ℕ → ℕ) (k n end : ℕ) (rows leasts : List ℕ) → Type 0
+Trimmed-to m wt k n end rows leasts = (t : ℕ) → 1 ≤ t → t < end → Row-trimmed m wt k n t rows (getD leasts t 0)

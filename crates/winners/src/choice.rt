@@ -28,7 +28,7 @@ fn place_of(m: usize, number: usize) -> usize
 }
 
 // Whether one of n clients stands, by the caps.
-fn stands(n: usize, caps: [u16; 6], client: usize) -> bool
+pub(crate) fn stands(n: usize, caps: [u16; 6], client: usize) -> bool
     requires { ⌜ n ≤ 6 ⌝ }
     ensures { λ r. ⌜ r ≡ (within 1 client n && not (eqb (getD caps (client - 1) 0) 0)) ⌝ }
 {
@@ -98,7 +98,8 @@ pub(crate) fn value_of(book: Book, bids: [u8; 6], count: usize) -> u64
     let mut sum: u64 = 0;
     let mut i: usize = 0;
     while i < count {
-        sum = sum + book::amount_of(book, bids[i] as usize) as u64;
+        let amount = book::amount_in(book.m, &book.amount, bids[i] as usize);
+        sum = sum + amount as u64;
         i += 1;
     }
     sum
@@ -111,7 +112,7 @@ pub(crate) fn owners_of(book: Book, bids: [u8; 6], count: usize) -> [u8; 6]
     let mut owners = [0u8; 6];
     let mut i: usize = 0;
     while i < count {
-        owners[i] = book::client_of(book, bids[i] as usize);
+        owners[i] = book::client_in(book.m, &book.client, bids[i] as usize);
         i += 1;
     }
     owners

@@ -1,17 +1,45 @@
 // The greatest value of a set of clients where nobody passes, by a search on the clients left, which are fewer by one at each call. It ends
 // a client's row, whose weights fall, at the first bid that cannot beat what is found: the known value of the clients after it is the most
 // that they can add. The hours of a bid and the hours used are numbers in lanes.
+use crate::client_sets;
 use crate::lanes;
-use crate::places::ASKED;
 use crate::places::COUNTS;
 use crate::places::ROW;
+use crate::places::ROW_BIDS;
 use crate::places::ROWS_END;
 use crate::places::SETS;
-use crate::slots;
+ghost use mathlib.Core.List.{List};
+ghost use Prim.Native.Nat.{ℕ};
 ghost use Rattle.winners.specs.Full.{Searchable, Searched};
 
+// The same for one client, the last: as weights fall, the first of its bids that fits is its best, if it beats the floor. The loop ends
+// with the room of a row, so that a compiler can write it out.
+fn last_bid(set: usize, used: u64, floor: u64, rows: &[u64; ROWS_END]) -> u64
+    requires { ⌜ ((values : List ℕ) × Searchable 1 set used floor (now rows) values) ⌝ }
+    ensures { λ r. ⌜ ((values : List ℕ) → Searched set used floor (now (rows .entry)) values r) ⌝ }
+{
+    let client = client_sets::first(set);
+    let count = rows[COUNTS + client] as usize;
+    let mut d: usize = 0;
+    while d < ROW_BIDS {
+        if count <= d {
+            return floor;
+        }
+        let weight = rows[ROW * client + 2 * d];
+        if weight <= floor {
+            return floor;
+        }
+        let taken = used + rows[ROW * client + 2 * d + 1];
+        if lanes::guards_set(taken) == 0 {
+            return weight;
+        }
+        d += 1;
+    }
+    floor
+}
+
 // The larger of the floor and of that value for a set of clients (`ahead` of them), in whatever market the rows lay out. By set, the values
-// of the clients left are ceilings.
+// of the clients left are ceilings. The last client takes no call of its own.
 pub(crate) fn search_full(
     ahead: usize,
     set: usize,
@@ -23,24 +51,28 @@ pub(crate) fn search_full(
     requires { ⌜ Searchable ahead set used floor (now rows) (now values) ⌝ }
     ensures { λ r. ⌜ Searched set used floor (now (rows .entry)) (now (values .entry)) r ⌝ }
 {
-    if ahead == 0 {
-        return floor;
+    if ahead == 1 {
+        return last_bid(set, used, floor, rows);
     }
-    let slot = slots::highest(set);
-    let rest = slots::others(set, slot);
+    let client = client_sets::first(set);
+    let rest = client_sets::others(set, client);
     let ceiling = values[rest];
-    let count = rows[COUNTS + slot] as usize;
+    let count = rows[COUNTS + client] as usize;
     let mut top = floor;
     let mut d: usize = 0;
     while d < count {
-        let weight = rows[ROW * slot + d];
+        let weight = rows[ROW * client + 2 * d];
         if weight + ceiling <= top {
             return top;
         }
-        let after = used + rows[ASKED + (ROW * slot + d)];
+        let after = used + rows[ROW * client + 2 * d + 1];
         if lanes::guards_set(after) == 0 {
             let base = numbers::excess(top, weight);
-            let more = search_full(ahead - 1, rest, after, base, rows, values);
+            let more = if ahead == 2 {
+                last_bid(rest, after, base, rows)
+            } else {
+                search_full(ahead - 1, rest, after, base, rows, values)
+            };
             top = weight + more;
         }
         d += 1;

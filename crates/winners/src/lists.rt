@@ -1,4 +1,4 @@
-// Sets of a list of clients: whether the list rises, and the clients that the sets' numbers pick, as sets by slots.
+// Sets of a list of clients: whether the list rises, and the clients that the sets' numbers pick, as sets of clients.
 ghost use mathlib.Core.Path.{_≡_};
 ghost use mathlib.Core.Bool.{_&&_};
 ghost use lib.Dec.{leb};
@@ -38,7 +38,7 @@ fn double(discards: &mut [u8; 64], end: usize, bit: u8)
     }
 }
 
-// The clients that are picked, for all sets of the list by their numbers: with each client the sets double. Bit j is client 6 - j.
+// The clients that are picked, for all sets of the list by their numbers: with each client the sets double.
 pub(crate) fn discards(clients: [u8; 6], count: usize) -> [u8; 64]
     requires { ⌜ Rising-list clients count ⌝ }
     ensures { λ r. ⌜ Discards clients count r ⌝ }
@@ -46,7 +46,7 @@ pub(crate) fn discards(clients: [u8; 6], count: usize) -> [u8; 64]
     let mut discards = [0u8; 64];
     let mut j: usize = 0;
     while j < count {
-        double(&mut discards, 1 << j, 1 << (6 - clients[j]));
+        double(&mut discards, 1 << j, 1 << (clients[j] - 1));
         j += 1;
     }
     discards

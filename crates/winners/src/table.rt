@@ -27,14 +27,11 @@ fn refused(number: u32) -> SigmaTable
     }
 }
 
-// Of a book that is a value.
-pub fn surpluses_of(book: Book, clients: [u8; 6], count: usize) -> SigmaTable
-    ensures { λ r. ⌜ Surpluses-are (sound-number book) (book-of book) clients count (r .number) (r .value) (r .sigma) ⌝ }
+// Of a sound book.
+fn of_sound(book: Book, clients: [u8; 6], count: usize) -> SigmaTable
+    requires { ⌜ sound-number book ≡ 0 ⌝ }
+    ensures { λ r. ⌜ Surpluses-are 0 (book-of book) clients count (r .number) (r .value) (r .sigma) ⌝ }
 {
-    let number = book::sound(book);
-    if 0 < number {
-        return refused(number as u32);
-    }
     if !lists::is_rising(clients, count, book.n as usize) {
         return refused(16);
     }
@@ -49,7 +46,18 @@ pub fn surpluses_of(book: Book, clients: [u8; 6], count: usize) -> SigmaTable
     }
 }
 
-// Of all clients of the book that bytes hold, whatever follows it.
+// Of a book that is a value.
+pub fn surpluses_of(book: Book, clients: [u8; 6], count: usize) -> SigmaTable
+    ensures { λ r. ⌜ Surpluses-are (sound-number book) (book-of book) clients count (r .number) (r .value) (r .sigma) ⌝ }
+{
+    let number = book::sound(book);
+    if 0 < number {
+        return refused(number as u32);
+    }
+    of_sound(book, clients, count)
+}
+
+// Of all clients of the book that bytes hold, whatever follows it. What was read is sound.
 pub fn surpluses(book: &[u8]) -> SigmaTable
     ensures { λ r. ⌜ All-surpluses-are (now (book .entry)) (r .number) (r .value) (r .sigma) ⌝ }
 {
@@ -57,6 +65,6 @@ pub fn surpluses(book: &[u8]) -> SigmaTable
     if 0 < reading.number {
         return refused(reading.number as u32);
     }
-    let held = reading.book;
-    surpluses_of(held, [1, 2, 3, 4, 5, 6], held.n as usize)
+    let n = reading.book.n as usize;
+    of_sound(reading.book, [1, 2, 3, 4, 5, 6], n)
 }

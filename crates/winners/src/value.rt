@@ -21,14 +21,11 @@ fn refused(number: u32) -> Worth
     Worth { number, value: 0 }
 }
 
-// Of a book that is a value.
-pub fn greatest_of(book: Book, discard: u8) -> Worth
-    ensures { λ r. ⌜ Worth-is (sound-number book) (book-of book) discard (r .number) (r .value) ⌝ }
+// Of a sound book.
+fn of_sound(book: Book, discard: u8) -> Worth
+    requires { ⌜ sound-number book ≡ 0 ⌝ }
+    ensures { λ r. ⌜ Worth-is 0 (book-of book) discard (r .number) (r .value) ⌝ }
 {
-    let number = book::sound(book);
-    if 0 < number {
-        return refused(number as u32);
-    }
     if 0 < (discard >> book.n) {
         return refused(16);
     }
@@ -39,7 +36,18 @@ pub fn greatest_of(book: Book, discard: u8) -> Worth
     }
 }
 
-// Of the book that bytes hold, whatever follows it.
+// Of a book that is a value.
+pub fn greatest_of(book: Book, discard: u8) -> Worth
+    ensures { λ r. ⌜ Worth-is (sound-number book) (book-of book) discard (r .number) (r .value) ⌝ }
+{
+    let number = book::sound(book);
+    if 0 < number {
+        return refused(number as u32);
+    }
+    of_sound(book, discard)
+}
+
+// Of the book that bytes hold, whatever follows it. What was read is sound.
 pub fn greatest_value(book: &[u8], discard: u8) -> Worth
     ensures { λ r. ⌜ Worth-is (book-refusal (now (book .entry))) (book-in (now (book .entry))) discard (r .number) (r .value) ⌝ }
 {
@@ -47,6 +55,5 @@ pub fn greatest_value(book: &[u8], discard: u8) -> Worth
     if 0 < reading.number {
         return refused(reading.number as u32);
     }
-    let held = reading.book;
-    greatest_of(held, discard)
+    of_sound(reading.book, discard)
 }

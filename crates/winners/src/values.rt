@@ -5,8 +5,8 @@ ghost use Prim.Native.Nat.{ℕ, _≤_, _<_};
 ghost use lib.ListN.{getD};
 ghost use Rattle.winners.specs.ClientLists.{Sigma-found};
 
-// What the value of all exceeds the value without each set by, for the sets below `end`. Those whom a set picks are given as a set by
-// slots.
+// What the value of all exceeds the value without each set by, for the sets below `end`. Those whom a set picks are given as a set of
+// clients.
 pub(crate) fn sigma_by(
     value: u64,
     discards: [u8; SETS],

@@ -1,9 +1,8 @@
 -- `choice::value_of` meets its contract. The loop keeps the sum so far with that of the bids left. Assumes nothing.
 use borrow.Author.Needs.{needs}
-use mathlib.Core.Path.{_≡_}
+use mathlib.Core.Path.{_≡_, refl}
 use Prim.Native.Nat.{_+_, _*_, _-_, _≤_}
-use lib.ListN.{length, take}
-use lib.ListN.{drop}
+use lib.ListN.{length, take, drop}
 use Rattle.sets.proofs.Prefixes.{prefix-next, prefix-done}
 use Rattle.winners.proofs.Choosing.{worth-next, worth-done}
 use Rattle.book.specs.Value.{book-of}
@@ -13,14 +12,14 @@ use Rattle.winners.proofs.choice.value_of.Statement.{statement}
 use Rattle.winners.proofs.choice.value_of.Tie as tie
 
 abbrev Inv-loop : tie.InvT-loop
-Inv-loop book count bids sum₀ i₀ sum i =
+Inv-loop count book bids sum₀ i₀ sum i =
     (i ≤ count)
     × (sum + worth (book-of book) (drop i (take count bids)) ≡ worth (book-of book) (take count bids))
     × (sum ≤ 4294967295 * i)
     × (length bids ≡ 6)
 
 abbrev μ-loop : tie.MeasureT-loop
-μ-loop book count bids sum₀ i₀ sum i = count - i
+μ-loop count book bids sum₀ i₀ sum i = count - i
 
 loop-holds : tie.Need-loop-holds Inv-loop μ-loop
 loop-holds c = (search needs, zero-add _, search needs, search needs)
@@ -28,11 +27,11 @@ loop-holds c = (search needs, zero-add _, search needs, search needs)
 loop-again : tie.Need-loop-again Inv-loop μ-loop
 unfolding amount-of
 loop-again c =
-    let l = c .before .before .loop in
-    let a = c .before .before .before .args in (
+    let l = c .before .before .before .before .loop in
+    let a = c .before .before .before .before .before .args in (
       search needs,
-      worth-next (amount-of (book-of (a .book))) _ _ _ _ _ _ (prefix-next (a .t2) (a .count) (search needs) (l .i) (search needs))
-          (c .amount-of .ensures) (l .inv .1),
+      worth-next (amount-of (book-of (a .t1))) _ _ _ _ _ _ (prefix-next (a .t2) (a .count) (search needs) (l .i) (search needs))
+          (c .amount-in .ensures _ refl refl) (l .inv .1),
       search needs,
       search needs,
     )

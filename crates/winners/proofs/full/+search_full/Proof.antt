@@ -2,7 +2,7 @@
 -- reach, in every market that the rows lay out. Assumes nothing.
 use borrow.Author.Needs.{needs}
 use borrow.Author.Tests.{eq-eqb, ne-eqb}
-use mathlib.Core.Path.{_≡_, refl, sym, _∙_}
+use mathlib.Core.Path.{_≡_, refl, sym, subst, _∙_}
 use mathlib.Core.Bool.{true, false}
 use mathlib.Core.Logic.{⊎-elim}
 use Prim.Native.Nat.{ℕ, _+_, _*_, _-_, _≤_, _<_}
@@ -10,10 +10,10 @@ use native.Mathlib.Omega.{arith}
 use lib.Bits.{bitAnd}
 use lib.Dec.{eqb}
 use lib.ListN.{getD}
-use Rattle.winners.specs.ClientSets.{Highest}
-use Rattle.winners.specs.Full.{Searchable}
+use Rattle.winners.specs.ClientSets.{First}
+use Rattle.winners.specs.Full.{Searchable, Searched}
 use Rattle.winners.proofs.ClientSets.{others-less}
-use Rattle.winners.proofs.Searching.{Found, search-none, some-left, found-first, found-falls, found-left, found-taken, found-end}
+use Rattle.winners.proofs.Searching.{Found, somebody, found-first, found-falls, found-left, found-taken, found-end}
 use Rattle.winners.proofs.Searching.{top-few, place-few, weight-few, hours-few, searchable-next}
 use borrow.Fn.Kinds.{In}
 use borrow.Fn.PlainCycle.{Measures, is, falls, and}
@@ -21,9 +21,10 @@ use Rattle.winners.proofs.full.search_full.Reads as search-full
 use Rattle.winners.proofs.full.search_full.Kinds as search-full-kinds
 use Rattle.winners.proofs.full.+search_full.Lts-search_full as lts
 use Rattle.numbers.proofs.excess.Reads as excess-reads
+use Rattle.winners.proofs.full.last_bid.Reads as last-bid-reads
 use Rattle.winners.proofs.lanes.guards_set.Reads as guards-set-reads
-use Rattle.winners.proofs.slots.highest.Reads as highest-reads
-use Rattle.winners.proofs.slots.others.Reads as others-reads
+use Rattle.winners.proofs.client_sets.first.Reads as first-reads
+use Rattle.winners.proofs.client_sets.others.Reads as others-reads
 use Rattle.winners.proofs.full.+search_full.{statement}
 use Rattle.winners.proofs.full.+search_full.Tie.{close}
 
@@ -38,8 +39,10 @@ below-turn t = and 2 search-full-kinds.ps (falls 2 search-full-kinds.ps _<_ μ-s
 
 abbrev told : ℕ → lts.Claims
 told t = (
-  highest-reads.Asked,
-  highest-reads.Learnt,
+  last-bid-reads.Asked,
+  last-bid-reads.Learnt,
+  first-reads.Asked,
+  first-reads.Learnt,
   others-reads.Asked,
   others-reads.Learnt,
   guards-set-reads.Asked,
@@ -51,40 +54,46 @@ told t = (
 )
 
 abbrev Inv-loop : lts.InvT-loop
-Inv-loop ahead set used floor rows values slot rest ceiling count top₀ d₀ top d =
-    (hi : Highest set slot) × Found set slot used floor rows values hi top d
+Inv-loop ahead set used floor rows values client rest ceiling count top₀ d₀ top d =
+    (hi : First set client) × Found set client used floor rows values hi top d
 
 abbrev μ-loop : lts.MeasureT-loop
-μ-loop ahead set used floor rows values slot rest ceiling count top₀ d₀ top d = count - d
+μ-loop ahead set used floor rows values client rest ceiling count top₀ d₀ top d = count - d
+
+-- one client is left
+last-bid-requires : (t : ℕ) → lts.Need-last-bid-requires (told t) (at-turn t) search-full.Post Inv-loop μ-loop
+last-bid-requires t c κs = let w = c .before .pre .1 in (_, rw (c .if1 .taken) at w)
 
 returns : (t : ℕ) → lts.Need-returns (told t) (at-turn t) search-full.Post Inv-loop μ-loop
-returns t c = search-none _ _ _ _ _ (sym (c .if1 .taken) ∙ c .before .pre .1 .clients-left)
+returns t c = c .last-bid .ensures _
 
-highest-requires : (t : ℕ) → lts.Need-highest-requires (told t) (at-turn t) search-full.Post Inv-loop μ-loop
-highest-requires t c κs =
+first-requires : (t : ℕ) → lts.Need-first-requires (told t) (at-turn t) search-full.Post Inv-loop μ-loop
+first-requires t c κs =
     let w = c .before .pre .1 in
-    (some-left (c .before .args .ahead) _ (w .clients-left) (c .if1 .left), w .set-few)
+    (somebody (c .before .args .ahead) _ (w .clients-left) (w .some-left), w .set-few)
 
 ceiling-place : (t : ℕ) → lts.Need-element-copy-out-ceiling (told t) (at-turn t) search-full.Post Inv-loop μ-loop
 ceiling-place t c =
-    omega (arith, c .others .ensures, others-less _ _ (c .before .highest .ensures), c .before .before .before .pre .1 .set-few)
+    omega (arith, c .others .ensures, others-less _ _ (c .before .first .ensures), c .before .before .before .pre .1 .set-few)
 
 loop-holds : (t : ℕ) → lts.Need-loop-holds (told t) (at-turn t) search-full.Post Inv-loop μ-loop
-loop-holds t c = let hi = c .before .before .before .highest .ensures in (hi, found-first _ _ _ _ _ _ hi)
+loop-holds t c = let hi = c .before .before .before .first .ensures in (hi, found-first _ _ _ _ _ _ hi)
 
 -- a turn of the loop
 abbrev Turn : ℕ → Type 0
 Turn t = lts.In-loop (told t) (at-turn t) search-full.Post Inv-loop μ-loop
 
 module _ (t : ℕ) (c : Turn t) where
-  -- the client's slot
-  abbrev slot : Highest (c .before .before .before .before .before .before .before .args .set)
-      (c .before .before .before .before .before .highest .result)
-  slot = c .before .loop .inv .0
+  -- the client's client
+  abbrev client : First (c .before .before .before .before .before .before .before .args .set)
+      (c .before .before .before .before .before .first .result)
+  client = c .before .loop .inv .0
 
-  -- somebody is left
-  somebody : 1 ≤ c .before .before .before .before .before .before .before .args .ahead
-  somebody = omega (arith, c .before .before .before .before .before .before .if1 .left)
+  -- more than one client is left
+  several : 2 ≤ c .before .before .before .before .before .before .before .args .ahead
+  several =
+      let able = c .before .before .before .before .before .before .before .pre .1 in
+      omega (arith, able .some-left, c .before .before .before .before .before .before .if1 .left)
 
   able : let a = c .before .before .before .before .before .before .before .args in
       Searchable (a .ahead) (a .set) (a .used) (a .floor) (a .rows .now) (a .values .now)
@@ -94,10 +103,10 @@ module _ (t : ℕ) (c : Turn t) where
   d = c .before .loop .d
 
   near : d < 8
-  near = place-few _ _ _ _ _ _ slot _ able d (c .loop-test .taken)
+  near = place-few _ _ _ _ _ _ client _ able d (c .loop-test .taken)
 
   found : let a = c .before .before .before .before .before .before .before .args in
-      Found (a .set) (c .before .before .before .before .before .highest .result) (a .used) (a .floor) (a .rows .now) (a .values .now) slot
+      Found (a .set) (c .before .before .before .before .before .first .result) (a .used) (a .floor) (a .rows .now) (a .values .now) client
       (c .before .loop .top) d
   found = c .before .loop .inv .1
 
@@ -106,7 +115,7 @@ add-if2 t c =
     let turn = c .before in
     omega (
       arith,
-      weight-few _ _ _ _ _ _ (slot t turn) _ (able t turn) (d t turn) (turn .loop-test .taken),
+      weight-few _ _ _ _ _ _ (client t turn) _ (able t turn) (d t turn) (turn .loop-test .taken),
       able t turn .values-few (turn .before .before .before .before .others .result),
     )
 
@@ -114,12 +123,12 @@ returns-2 : (t : ℕ) → lts.Need-returns-2 (told t) (at-turn t) search-full.Po
 returns-2 t c =
     let turn = c .before .before in
     let rest = turn .before .before .before .before .others .ensures in
-    found-falls _ _ _ _ _ _ (slot t turn) _ (d t turn) (turn .loop-test .taken) (found t turn) (rw rest at (c .if2 .taken))
+    found-falls _ _ _ _ _ _ (client t turn) _ (d t turn) (turn .loop-test .taken) (found t turn) (rw rest at (c .if2 .taken))
 
 add-after-3 : (t : ℕ) → lts.Need-add-after-3 (told t) (at-turn t) search-full.Post Inv-loop μ-loop
 add-after-3 t c =
     let turn = c .before .before .before in
-    omega (arith, hours-few _ _ _ _ _ _ (slot t turn) _ (able t turn) (d t turn) (turn .loop-test .taken))
+    omega (arith, hours-few _ _ _ _ _ _ (client t turn) _ (able t turn) (d t turn) (turn .loop-test .taken))
 
 -- the guards are clear, or not
 module _ (t : ℕ) (c : lts.After-guards-set (told t) (at-turn t) search-full.Post Inv-loop μ-loop) where
@@ -127,7 +136,7 @@ module _ (t : ℕ) (c : lts.After-guards-set (told t) (at-turn t) search-full.Po
   after =
       let turn = c .before .before .before .before in
       let a = turn .before .before .before .before .before .before .before .args in
-      a .used + getD (a .rows .now) (56 + (8 * turn .before .before .before .before .before .highest .result + d t turn)) 0
+      a .used + getD (a .rows .now) (16 * turn .before .before .before .before .before .first .result + 2 * d t turn + 1) 0
 
   clear : c .guards-set .result ≡ 0 → eqb (bitAnd after 72058693566333184) 0 ≡ true
   clear z = eq-eqb _ 0 (sym (c .guards-set .ensures .0) ∙ z)
@@ -135,50 +144,90 @@ module _ (t : ℕ) (c : lts.After-guards-set (told t) (at-turn t) search-full.Po
   unclear : (c .guards-set .result ≡ 0 → ⊥) → eqb (bitAnd after 72058693566333184) 0 ≡ false
   unclear n = ne-eqb _ 0 (λ e. n (c .guards-set .ensures .0 ∙ e))
 
-search-full-requires : (t : ℕ) → lts.Need-search-full-requires (told t) (at-turn t) search-full.Post Inv-loop μ-loop
-search-full-requires t c κs =
-    let tested = c .before .before in
-    let turn = tested .before .before .before .before in
-    let s = turn .before .before .before .before .before .before .before in
-    let rest = turn .before .before .before .before .others .ensures in
-    let top = top-few _ _ _ _ _ _ (slot t turn) _ (able t turn) _ _ (found t turn) in (
-      omega (arith, s .pre .0, somebody t turn),
-      rw rest (searchable-next _ _ _ _ _ _ (slot t turn) _ (able t turn) (d t turn) (turn .loop-test .taken) _
-          (omega (arith, c .excess .ensures, top)) (clear t tested (c .before .if3 .taken))),
+-- what is left may be searched
+module _ (t : ℕ) (c : lts.After-excess (told t) (at-turn t) search-full.Post Inv-loop μ-loop) where
+  abbrev tested : lts.After-guards-set (told t) (at-turn t) search-full.Post Inv-loop μ-loop
+  tested = c .before .before
+
+  abbrev turn : Turn t
+  turn = tested .before .before .before .before
+
+  abbrev start : lts.Start (told t) (at-turn t) search-full.Post Inv-loop μ-loop
+  start = turn .before .before .before .before .before .before .before
+
+  abbrev first : ℕ
+  first = turn .before .before .before .before .before .first .result
+
+  abbrev rest : ℕ
+  rest = turn .before .before .before .before .others .result
+
+  -- the search of the others
+  abbrev Rest-searched : (set more : ℕ) → Type 0
+  Rest-searched set more = Searched set (after t tested) (c .excess .result) (start .args .rows .now) (start .args .values .now) more
+
+  later : Searchable (start .args .ahead - 1) rest (after t tested) (c .excess .result) (start .args .rows .now) (start .args .values .now)
+  later =
+      let top = top-few _ _ _ _ _ _ (client t turn) _ (able t turn) _ _ (found t turn) in
+      subst
+      (λ (x : ℕ).
+      Searchable (start .args .ahead - 1) x (after t tested) (c .excess .result) (start .args .rows .now) (start .args .values .now))
+      (sym (turn .before .before .before .before .others .ensures))
+      (searchable-next _ _ _ _ _ _ (client t turn) _ (able t turn) (d t turn) (turn .loop-test .taken) _
+      (omega (arith, several t turn)) (omega (arith, c .excess .ensures, top)) (clear t tested (c .before .if3 .taken)))
+
+  -- a bid taken, with what the others add to it
+  taken : (more : ℕ) → Rest-searched rest more
+      → Found (start .args .set) first (start .args .used) (start .args .floor) (start .args .rows .now) (start .args .values .now)
+      (client t turn) (getD (start .args .rows .now) (16 * first + 2 * d t turn) 0 + more) (d t turn + 1)
+  taken more s =
+      found-taken _ _ _ _ _ _ (client t turn) _ (d t turn) (turn .loop-test .taken) (c .excess .result) more _
+      (found t turn) (clear t tested (c .before .if3 .taken)) (c .excess .ensures)
+      (subst (λ (x : ℕ). Rest-searched x more) (turn .before .before .before .before .others .ensures) s) refl
+
+last-bid-requires-2 : (t : ℕ) → lts.Need-last-bid-requires-2 (told t) (at-turn t) search-full.Post Inv-loop μ-loop
+last-bid-requires-2 t c κs =
+    let found = c .before in
+    let a = start t found .args in
+    let one : a .ahead - 1 ≡ 1 = omega (arith, c .if4 .taken) in (
+      a .values .now,
+      subst
+          (λ (x : ℕ). Searchable x (rest t found) (after t (tested t found)) (found .excess .result) (a .rows .now) (a .values .now)) one
+          (later t found),
     )
 
--- a bid taken
-module _ (t : ℕ) (c : lts.After-search-full (told t) (at-turn t) search-full.Post Inv-loop μ-loop) where
-  taken : let tested = c .before .before .before in
-      let turn = tested .before .before .before .before in
-      let a = turn .before .before .before .before .before .before .before .args in
-      let slot-number = turn .before .before .before .before .before .highest .result in
-      Found (a .set) slot-number (a .used) (a .floor) (a .rows .now) (a .values .now) (slot t turn)
-      (getD (a .rows .now) (8 * slot-number + d t turn) 0 + c .search-full .result) (d t turn + 1)
-  taken =
-      let tested = c .before .before .before in
-      let turn = tested .before .before .before .before in
-      let rest = turn .before .before .before .before .others .ensures in
-      found-taken _ _ _ _ _ _ (slot t turn) _ (d t turn) (turn .loop-test .taken) (c .before .excess .result) (c .search-full .result) _
-      (found t turn) (clear t tested (c .before .before .if3 .taken)) (c .before .excess .ensures)
-      (rw rest at (c .search-full .ensures)) refl
+search-full-requires : (t : ℕ) → lts.Need-search-full-requires (told t) (at-turn t) search-full.Post Inv-loop μ-loop
+search-full-requires t c κs =
+    let found = c .before in
+    (omega (arith, start t found .pre .0, several t (turn t found)), later t found)
+
+-- what the others add, whoever finds it
+others-add : (t : ℕ) (c : lts.Joined4 (told t) (at-turn t) search-full.Post Inv-loop μ-loop)
+    → Rest-searched t (c .before) (rest t (c .before)) (c .if4 .more)
+others-add t c = ⊎-elim
+    (λ (if4, bid, e). subst (λ (x : ℕ). Rest-searched t (c .before) (rest t (c .before)) x) (sym e) (bid .ensures _))
+    (λ (if4, more, e). subst (λ (x : ℕ). Rest-searched t (c .before) (rest t (c .before)) x) (sym e) (more .ensures))
+    (c .if4 .came)
 
 add-top : (t : ℕ) → lts.Need-add-top (told t) (at-turn t) search-full.Post Inv-loop μ-loop
 add-top t c =
-    let turn = c .before .before .before .before .before .before .before in
-    omega (arith, top-few _ _ _ _ _ _ (slot t turn) _ (able t turn) _ _ (taken t c))
+    let found = c .before .before in
+    omega (
+      arith,
+      top-few _ _ _ _ _ _ (client t (turn t found)) _ (able t (turn t found)) _ _
+          (taken t found _ (others-add t (c .before))),
+    )
 
 loop-again : (t : ℕ) → lts.Need-loop-again (told t) (at-turn t) search-full.Post Inv-loop μ-loop
 loop-again t c =
-    let turn = c .before .before .before .before .before in (
-      slot t turn,
+    let here = c .before .before .before .before .before in (
+      client t here,
       ⊎-elim
-          (λ (if3, excess, more, e). rw e (taken t (record {
-            before = record { before = record { before = c .before; if3 = if3 }; excess = excess };
-            search-full = more;
-          })))
+          (λ (if3, excess, if4, known, e).
+          let found : lts.After-excess (told t) (at-turn t) search-full.Post Inv-loop μ-loop
+          = record { before = record { before = c .before; if3 = if3 }; excess = excess } in
+          rw e (taken t found _ (others-add t (record { before = found; if4 = if4 }))))
           (λ (if3, e). rw e
-          (found-left _ _ _ _ _ _ (slot t turn) _ (d t turn) (turn .loop-test .taken) (found t turn) (unclear t (c .before) (if3 .left))))
+          (found-left _ _ _ _ _ _ (client t here) _ (d t here) (here .loop-test .taken) (found t here) (unclear t (c .before) (if3 .left))))
           (c .if3 .came),
     )
 
@@ -191,30 +240,34 @@ pub +search-full-spec : {M : Type 1} → statement M
     search-full.Post
     Inv-loop
     μ-loop
+    (last-bid-requires t)
     (returns t)
-    (highest-requires t)
-    (λ c κs. c .highest .ensures)
+    (first-requires t)
+    (λ c κs. c .first .ensures)
     (λ c. search needs)
     (ceiling-place t)
-    (λ c. omega (arith, c .before .before .highest .ensures .high))
+    (λ c. omega (arith, c .before .before .first .ensures .high))
     (λ c. search needs)
-    (λ c. omega (arith, c .before .before .highest .ensures .high))
+    (λ c. omega (arith, c .before .before .first .ensures .high))
     (loop-holds t)
-    (λ c. omega (arith, slot t c .high))
-    (λ c. omega (arith, slot t c .high, near t c))
-    (λ c. omega (arith, slot t c .high, near t c))
-    (λ c. omega (arith, slot t c .high, near t c))
+    (λ c. omega (arith, client t c .high))
+    (λ c. omega (arith, near t c))
+    (λ c. omega (arith, client t c .high, near t c))
+    (λ c. omega (arith, client t c .high, near t c))
+    (λ c. omega (arith, client t c .high, near t c))
     (add-if2 t)
     (returns-2 t)
-    (λ c. omega (arith, slot t (c .before .before) .high))
-    (λ c. omega (arith, slot t (c .before .before) .high, near t (c .before .before)))
-    (λ c. omega (arith, slot t (c .before .before) .high, near t (c .before .before)))
-    (λ c. omega (arith, slot t (c .before .before) .high, near t (c .before .before)))
-    (λ c. omega (arith, slot t (c .before .before) .high, near t (c .before .before)))
+    (λ c. omega (arith, client t (c .before .before) .high))
+    (λ c. omega (arith, near t (c .before .before)))
+    (λ c. omega (arith, client t (c .before .before) .high, near t (c .before .before)))
+    (λ c. omega (arith, client t (c .before .before) .high, near t (c .before .before)))
+    (λ c. omega (arith, client t (c .before .before) .high, near t (c .before .before)))
+    (λ c. omega (arith, client t (c .before .before) .high, near t (c .before .before)))
     (add-after-3 t)
     (λ c κs. search needs)
     (λ c κs. search needs)
-    (λ c. somebody t (c .before .before .before .before .before .before))
+    (last-bid-requires-2 t)
+    (λ c. omega (arith, several t (turn t (c .before))))
     (search-full-requires t)
     (add-top t)
     (λ c. omega (arith, near t (c .before .before .before .before .before)))

@@ -3,6 +3,7 @@ use borrow.Author.Needs.{needs}
 use mathlib.Core.Path.{_≡_}
 use Prim.Native.Nat.{_-_, _≤_}
 use native.Mathlib.Nat.{le-antisymm}
+use native.Mathlib.Omega.{arith}
 use lib.ListN.{length, getD}
 use Rattle.winners.proofs.Picks.{listed-range}
 use Rattle.winners.proofs.Doubling.{Bytes, bytes-none, bytes-room, bytes-next, bytes-done}
@@ -49,7 +50,10 @@ returns c =
     (l .inv .3)
 
 sub-double : tie.Need-sub-double Inv-loop μ-loop
-sub-double c = client (c .before) .1
+sub-double c = client (c .before) .0
+
+shl-double-2 : tie.Need-shl-double-2 Inv-loop μ-loop
+shl-double-2 c = omega (arith, client (c .before))
 
 pub discards-spec : {M : Type 1} → statement M
 discards-spec =
@@ -61,7 +65,7 @@ discards-spec =
     (λ c. search needs)
     (λ c. search needs)
     sub-double
-    (λ c. search needs)
+    shl-double-2
     double-requires
     (λ c. search needs)
     (λ c. search needs)

@@ -1,36 +1,67 @@
--- `pass::floor_of` meets its contract. The loop keeps the floor by the slots passed. Assumes nothing.
+-- `pass::floor_of` meets its contract. The loop keeps the floor by the clients left out so far. Assumes nothing.
 use borrow.Author.Needs.{needs}
-use Prim.Native.Nat.{_-_, _≤_}
-use native.Mathlib.Nat.{le-antisymm}
+use mathlib.Core.Path.{_≡_, ap, _∙_}
+use mathlib.Core.List.{[]}
+use Prim.Native.Nat.{ℕ, _-_, _^_, _≤_, _<_}
 use native.Mathlib.Omega.{arith}
-use Rattle.winners.specs.Passes.{Floor-to}
-use Rattle.winners.proofs.PassSteps.{floor-none, floor-next}
+use Rattle.winners.specs.ClientSets.{Within}
+use Rattle.winners.specs.Passes.{Floor-past}
+use Rattle.winners.proofs.ClientSets.{others-less}
+use Rattle.winners.proofs.PassSteps.{floor-none, floor-next, bit-is, bit-few, rest-within}
 use Rattle.winners.proofs.pass.floor_of.Statement.{statement}
 use Rattle.winners.proofs.pass.floor_of.Tie as tie
 
 abbrev Inv-loop : tie.InvT-loop
-Inv-loop set values floor₀ j₀ floor j = (j ≤ 6) × Floor-to j set values floor
+Inv-loop set values floor₀ left₀ floor left = (left < 64) × Within left set × Floor-past left set values floor
 
 abbrev μ-loop : tie.MeasureT-loop
-μ-loop set values floor₀ j₀ floor j = 6 - j
+μ-loop set values floor₀ left₀ floor left = left
 
 loop-holds : tie.Need-loop-holds Inv-loop μ-loop
-loop-holds c = (omega arith, floor-none _ _)
+loop-holds c = (c .pre, (λ j h. h), floor-none _ _)
 
-value-without-requires : tie.Need-value-without-requires Inv-loop μ-loop
-value-without-requires c κs = (c .before .before .pre, c .loop-test .taken)
+-- the clients still to be left out, and the first of them
+module _ (c : tie.After-others Inv-loop μ-loop) where
+  abbrev turn : tie.At-loop Inv-loop μ-loop
+  turn = c .before .before .before
+
+  -- the number that is taken off is the first client's bit
+  bit : turn .loop .left - c .others .result ≡ 2 ^ (c .before .first .result - 1)
+  bit =
+      ap (λ (x : ℕ). turn .loop .left - x) (c .others .ensures) ∙ bit-is _ _ _ [] 0 0 (c .before .first .ensures) (turn .loop .inv .1)
+
+sub-larger : tie.Need-sub-larger Inv-loop μ-loop
+sub-larger c = omega (arith, c .others .ensures)
+
+sub-larger-2 : tie.Need-sub-larger-2 Inv-loop μ-loop
+sub-larger-2 c = omega (arith, bit c, bit-few _ _ _ [] 0 0 (c .before .first .ensures) (turn c .loop .inv .1))
+
+mul-larger : tie.Need-mul-larger Inv-loop μ-loop
+mul-larger c = omega (arith, turn c .before .pre)
+
+element-copy-out-larger : tie.Need-element-copy-out-larger Inv-loop μ-loop
+element-copy-out-larger c = omega (arith, turn c .before .pre)
+
+loop-less : tie.Need-loop-less Inv-loop μ-loop
+loop-less c = let found = c .before .before in rw (found .others .ensures) (others-less _ _ (found .before .first .ensures))
 
 loop-again : tie.Need-loop-again Inv-loop μ-loop
 loop-again c =
-    let found = c .before in
-    let l = found .before .before .loop in (
-      omega (arith, found .before .loop-test .taken),
-      floor-next (l .j) _ _ _ _ _ (found .value-without .ensures) (c .larger .ensures)
-          (l .inv .1),
+    let found = c .before .before in
+    let l = turn found .loop in
+    let first = found .before .first .ensures in
+    let smaller = others-less _ _ first in
+    rw (found .others .ensures) (
+      omega (arith, l .inv .0),
+      rest-within _ _ _ [] 0 0 first (l .inv .1),
+      floor-next _ _ _ _ _ _ first (l .inv .1) (rw (bit found) at (c .larger .ensures)) (l .inv .2),
     )
 
 returns : tie.Need-returns Inv-loop μ-loop
-returns c = let l = c .before .loop in rw (le-antisymm (c .loop-test .left) (l .inv .0)) (l .inv .1)
+returns c =
+    let l = c .before .loop in
+    let z : l .left ≡ 0 = omega (arith, c .loop-test .left) in
+    rw z at (l .inv .2)
 
 pub floor-of-spec : {M : Type 1} → statement M
 floor-of-spec =
@@ -39,9 +70,13 @@ floor-of-spec =
     Inv-loop
     μ-loop
     loop-holds
-    value-without-requires
     (λ c κs. search needs)
-    (λ c. search needs)
-    (λ c. search needs)
+    (λ c κs. search needs)
+    sub-larger
+    sub-larger-2
+    mul-larger
+    element-copy-out-larger
+    (λ c κs. search needs)
+    loop-less
     loop-again
     returns)

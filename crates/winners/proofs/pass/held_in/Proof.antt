@@ -1,4 +1,4 @@
--- `pass::held_in` meets its contract. The loop keeps the set of the slots passed, from the last down. Assumes nothing.
+-- `pass::held_in` meets its contract. The loop keeps the set of the clients passed, from the last down. Assumes nothing.
 use borrow.Author.Needs.{needs}
 use mathlib.Core.Path.{_≡_, refl, ap}
 use Prim.Native.Nat.{ℕ, _+_, _*_, _-_, _≤_, _<_}
@@ -25,7 +25,7 @@ loop-again c =
     let l = c .before .before .before .loop in
     let s = c .before .before .before .before in
     let more = c .before .before .loop-test .taken in
-    let here = held-next (λ t. ltb 0 (getD (s .args .rows .now) (112 + t) 0)) (l .t) (l .held) (c .share .result + 2 * l .held)
+    let here = held-next (λ t. ltb 0 (getD (s .args .rows .now) (112 + t) 0)) (l .c) (l .held) (c .share .result + 2 * l .held)
     _ more (l .inv .0)
     (l .inv .1) refl (ap (λ (x : ℕ). x + 2 * l .held) (c .share .ensures .0)) in (
       omega (arith, l .inv .0),
@@ -36,7 +36,7 @@ loop-again c =
 returns : tie.Need-returns Inv-loop μ-loop
 returns c =
     let l = c .before .loop in
-    let z : l .t ≡ 0 = omega (arith, c .loop-test .left) in
+    let z : l .c ≡ 0 = omega (arith, c .loop-test .left) in
     rw z at (l .inv .1)
 
 pub held-in-spec : {M : Type 1} → statement M

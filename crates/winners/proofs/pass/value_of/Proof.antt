@@ -1,74 +1,60 @@
 -- `pass::value_of` meets its contract. Assumes nothing.
 use borrow.Author.Needs.{needs}
 use borrow.Author.Tests.{eq-eqb, ne-eqb}
-use mathlib.Core.Path.{_≡_, refl}
+use mathlib.Core.Path.{_≡_}
 use mathlib.Core.Bool.{true, false}
 use native.Mathlib.Omega.{arith}
 use lib.Bits.{bitAnd}
 use lib.Dec.{eqb}
-use Rattle.winners.proofs.PassSteps.{value-left, value-floor, value-searched, value-searchable}
+use Rattle.winners.proofs.PassSteps.{value-floor, value-searched, value-searchable}
 use Rattle.winners.proofs.pass.value_of.Statement.{statement}
 use Rattle.winners.proofs.pass.value_of.Tie as tie
 
-mul-result : tie.Need-mul-result
-mul-result c = omega (arith, c .if1 .taken, c .before .pre .few)
-
-element-copy-out-result : tie.Need-element-copy-out-result
-element-copy-out-result c = omega (arith, c .if1 .taken, c .before .pre .few)
+floor-of-requires : tie.Need-floor-of-requires
+floor-of-requires c κs = c .pre .few
 
 returns : tie.Need-returns
-returns c = record {
-  is = λ m wt k supply least laid room known. value-left _ _ _ _ _ m wt k supply least laid room known _ refl (c .before .if1 .taken);
-}
-
-floor-of-requires : tie.Need-floor-of-requires
-floor-of-requires c κs = c .before .pre .few
-
-returns-2 : tie.Need-returns-2
-returns-2 c =
+returns c =
     let floor = c .before .before .floor-of in
     let guards = c .before .guards-set .ensures .0 in
-    let set : eqb (bitAnd (c .before .before .before .before .args .used) 72058693566333184) 0 ≡ false
-    = ne-eqb (bitAnd (c .before .before .before .before .args .used) 72058693566333184) 0 (λ e. omega (arith, c .if2 .taken, guards, e)) in
+    let set : eqb (bitAnd (c .before .before .before .args .used) 72058693566333184) 0 ≡ false
+    = ne-eqb (bitAnd (c .before .before .before .args .used) 72058693566333184) 0 (λ e. omega (arith, c .if1 .taken, guards, e)) in
     record {
-      is = λ m wt k supply least laid room known. value-floor _ _ _ _ _ m wt k supply least laid room known _ (floor .ensures) set;
+      is = λ m wt k supply least laid room known. value-floor _ _ _ _ m wt k supply least laid room known _ (floor .ensures) set;
     }
 
 -- the guards are clear
-clear : (c : tie.Else2) → eqb (bitAnd (c .before .before .before .before .args .used) 72058693566333184) 0 ≡ true
-clear c = eq-eqb (bitAnd (c .before .before .before .before .args .used) 72058693566333184) 0
-    (omega (arith, c .if2 .left, c .before .guards-set .ensures .0))
+clear : (c : tie.Else1) → eqb (bitAnd (c .before .before .before .args .used) 72058693566333184) 0 ≡ true
+clear c = eq-eqb (bitAnd (c .before .before .before .args .used) 72058693566333184) 0
+    (omega (arith, c .if1 .left, c .before .guards-set .ensures .0))
 
 search-full-requires : tie.Need-search-full-requires
 search-full-requires c κs =
     let tested = c .before in
-    let w = tested .before .before .before .before .pre in
+    let w = tested .before .before .before .pre in
     let s = w .sale in
-    value-searchable _ _ _ _ _ (s .m) (s .wt) (s .k) (s .supply) (s .least) (s .laid) (w .room) (w .known)
-    _ (tested .before .before .floor-of .ensures) (clear tested) _ (c .size .ensures) (w .few)
+    value-searchable _ _ _ _ (s .m) (s .wt) (s .k) (s .supply) (s .least) (s .laid) (w .room) (w .known)
+    _ (tested .before .before .floor-of .ensures) (clear tested) _ (c .size .ensures) (w .some) (w .few)
 
 size-requires : tie.Need-size-requires
-size-requires c κs = c .before .before .before .before .pre .few
+size-requires c κs = c .before .before .before .pre .few
 
-returns-3 : tie.Need-returns-3
-returns-3 c =
+returns-2 : tie.Need-returns-2
+returns-2 c =
     let tested = c .before .before in
     let floor = tested .before .before .floor-of in
     record {
       is = λ m wt k supply least laid room known.
-          value-searched _ _ _ _ _ m wt k supply least laid room known _ (floor .ensures) (clear tested) _ (c .search-full .ensures);
+          value-searched _ _ _ _ m wt k supply least laid room known _ (floor .ensures) (clear tested) _ (c .search-full .ensures);
     }
 
 pub value-of-spec : {M : Type 1} → statement M
 value-of-spec =
     tie.close
     (tie.spec
-    mul-result
-    element-copy-out-result
-    returns
     floor-of-requires
     (λ c κs. search needs)
-    returns-2
+    returns
     size-requires
     search-full-requires
-    returns-3)
+    returns-2)

@@ -1,18 +1,21 @@
 -- `pass::weigh_all` meets its contract. Assumes nothing.
 use borrow.Author.Needs.{needs}
+use mathlib.Core.Path.{refl}
 use mathlib.Core.List.{List}
 use Prim.Native.Nat.{ℕ}
 use lib.ListN.{length}
-use Rattle.book.specs.Book.{supplies}
+use Rattle.book.specs.Book.{Book, supplies}
+use Rattle.book.specs.Sound.{Sound}
 use Rattle.book.specs.Value.{book-of}
 use Rattle.book.proofs.Held.{sound-held}
 use Rattle.winners.specs.Combinations.{amount-of}
 use Rattle.winners.specs.Lanes.{Left}
-use Rattle.winners.specs.Passes.{Laid-out}
-use Rattle.winners.specs.Taken.{Leasts-held, Taken-to}
-use Rattle.winners.specs.Trims.{searched}
+use Rattle.winners.specs.Passes.{Laid-out, Idle-but}
+use Rattle.winners.specs.Taken.{Leasts-held}
+use Rattle.winners.specs.Rows.{searched}
+use Rattle.winners.specs.Trims.{Trimmed-to}
 use Rattle.winners.proofs.HeldBids.{supply-left}
-use Rattle.winners.proofs.LaidOut.{least-of, leasts-laid, laid-out}
+use Rattle.winners.proofs.LaidOut.{least-of, leasts-laid, idle-but, laid-out}
 use Rattle.winners.proofs.PassSteps.{values-none}
 use Rattle.winners.proofs.pass.weigh_all.Statement.{statement}
 use Rattle.winners.proofs.pass.weigh_all.Tie as tie
@@ -28,78 +31,89 @@ supplied c =
 fill-requires : tie.Need-fill-requires
 fill-requires c κs = (c .before .before .before .pre, supplied (c .before))
 
+settle-all-requires : tie.Need-settle-all-requires
+settle-all-requires c κs =
+    let filled = c .before .before in
+    let s = filled .before .before .before .before in
+    let v = s .args .book in (
+      (filled .fill .ensures .1, refl),
+      λ t a b. let (row, held) = filled .fill .ensures .0 t a b in
+          record {
+            m = searched (book-of v) (s .args .discard);
+            wt = amount-of (book-of v);
+            k = length (book-of v .kinds);
+            n = length (book-of v .bids);
+            row = row;
+            kinds-few = sound-held v (s .pre) .K-high;
+            held = held;
+          },
+    )
+
 -- the rows that are weighed
 module _ (c : tie.After-held-in) where
   abbrev settled : tie.After-settle-all
   settled = c .before .before
 
+  abbrev filled : tie.After-fill
+  filled = settled .before .before .before
+
   abbrev start : tie.Start
-  start = settled .before .before .before .before .before .before .before
+  start = filled .before .before .before .before
+
+  abbrev b : Book
+  b = book-of (start .args .book)
+
+  sound : Sound b
+  sound = sound-held (start .args .book) (start .pre)
+
+  abbrev rows : List ℕ
+  rows = settled .settle-all .last .0
+
+  abbrev numbers : List ℕ
+  numbers = settled .settle-all .last .1 .0
+
+  trims : Trimmed-to (searched b (start .args .discard)) (amount-of b) (length (b .kinds)) (length (b .bids)) 7 rows numbers
+  trims = settled .settle-all .ensures _ _ _ _ (sound .K-high) (filled .fill .ensures .0)
 
   abbrev least : ℕ → List ℕ
-  least = let v = start .args .book in
-      least-of (book-of v) (sound-held v (start .pre)) (start .args .discard) _ _ (settled .settle-all .ensures .0)
+  least = least-of b sound (start .args .discard) rows numbers trims
 
-  laid : let v = start .args .book in
-      Laid-out (searched (book-of v) (start .args .discard)) (amount-of (book-of v)) (length (book-of v .kinds)) least (c .held-in .result)
-      (settled .settle-all .last .1 .1 .0)
-  laid = let v = start .args .book in
-      laid-out (book-of v) (sound-held v (start .pre)) (start .args .discard) _ _ (settled .settle-all .ensures .0) _ (c .held-in .ensures)
+  laid : Laid-out (searched b (start .args .discard)) (amount-of b) (length (b .kinds)) least rows
+  laid = laid-out b sound (start .args .discard) rows numbers trims
 
-  leasts-are : Leasts-held (length (book-of (start .args .book) .kinds)) least (settled .settle-all .last .1 .1 .1 .0)
-  leasts-are = let v = start .args .book in
-      leasts-laid (book-of v) (sound-held v (start .pre)) (start .args .discard) _ _ (settled .settle-all .ensures .0)
+  idle : Idle-but (searched b (start .args .discard)) (c .held-in .result)
+  idle = idle-but b sound (start .args .discard) rows numbers trims _ (c .held-in .ensures)
 
-  left : let v = start .args .book in Left (length (book-of v .kinds)) (supplies (book-of v))
-      (settled .before .before .before .before .before .used .result)
-  left = supplied (settled .before .before .before .before .before)
+  leasts-are : Leasts-held (length (b .kinds)) least numbers
+  leasts-are = leasts-laid b sound (start .args .discard) rows numbers trims
+
+  left : Left (length (b .kinds)) (supplies b) (filled .before .before .used .result)
+  left = supplied (filled .before .before)
 
 returns : tie.Need-returns
-returns c = values-none _ _ _ _ _ _ _ (c .if1 .taken) (laid (c .before))
-
-fill-taken-requires : tie.Need-fill-taken-requires
-fill-taken-requires c κs =
-    let held = c .before .before .before in
-    let v = start held .args .book in (
-      search needs,
-      record {
-        k = length (book-of v .kinds);
-        supply = supplies (book-of v);
-        least = least held;
-        left = left held;
-        held = leasts-are held;
-      },
-    )
-
--- and what least hours take
-rooms : (c : tie.After-fill-taken) → let held = c .before .before .before .before in
-    let v = start held .args .book in
-    Taken-to (length (book-of v .kinds)) (supplies (book-of v)) (least held) 64 (c .fill-taken .last .1 .1 .0)
-rooms c =
-    let held = c .before .before .before .before in
-    c .fill-taken .ensures _ _ _ (left held) (leasts-are held)
+returns c = values-none _ _ _ _ (c .if1 .taken) (idle (c .before))
 
 weigh-sets-requires : tie.Need-weigh-sets-requires
 weigh-sets-requires c κs =
-    let taken = c .before .before in
-    let held = taken .before .before .before .before in
-    let v = start held .args .book in
+    let held = c .before .before .before in
     record {
       sale = record {
-        m = searched (book-of v) (start held .args .discard);
-        wt = amount-of (book-of v);
-        k = length (book-of v .kinds);
-        supply = supplies (book-of v);
+        m = searched (b held) (start held .args .discard);
+        wt = amount-of (b held);
+        k = length (b held .kinds);
+        supply = supplies (b held);
         least = least held;
         laid = laid held;
       };
-      rooms = rooms taken;
+      idle = idle held;
+      left = left held;
+      leasts = leasts-are held;
     }
 
 returns-2 : tie.Need-returns-2
 returns-2 c =
-    let taken = c .before .before .before in
-    c .weigh-sets .ensures .is _ _ _ _ _ (laid (taken .before .before .before .before)) (rooms taken)
+    let held = c .before .before .before .before in
+    c .weigh-sets .ensures .is _ _ _ _ _ (laid held) (idle held) (left held) (leasts-are held)
 
 pub weigh-all-spec : {M : Type 1} → statement M
 weigh-all-spec =
@@ -108,9 +122,8 @@ weigh-all-spec =
     (λ c κs. search needs)
     (λ c κs. search needs)
     fill-requires
-    (λ c κs. search needs)
+    settle-all-requires
     (λ c κs. search needs)
     returns
-    fill-taken-requires
     weigh-sets-requires
     returns-2)

@@ -9,10 +9,10 @@ use Rattle.winners.proofs.trims.least_of.Statement.{statement}
 use Rattle.winners.proofs.trims.least_of.Tie as tie
 
 abbrev Inv-loop : tie.InvT-loop
-Inv-loop slot rows count least₀ d₀ least d = (d ≤ count) × Least-to slot d rows least
+Inv-loop client rows count least₀ d₀ least d = (d ≤ count) × Least-to client d rows least
 
 abbrev μ-loop : tie.MeasureT-loop
-μ-loop slot rows count least₀ d₀ least d = count - d
+μ-loop client rows count least₀ d₀ least d = count - d
 
 loop-holds : tie.Need-loop-holds Inv-loop μ-loop
 loop-holds c = (omega arith, least-first _ _ _ _ refl (c .share .ensures .0))
@@ -28,6 +28,9 @@ add-least c = omega (arith, inside c, c .before .before .before .before .before 
 
 add-least-2 : tie.Need-add-least-2 Inv-loop μ-loop
 add-least-2 c = omega (arith, inside c, c .before .before .before .before .before .pre .0)
+
+mul-least-2 : tie.Need-mul-least-2 Inv-loop μ-loop
+mul-least-2 c = omega (arith, inside c)
 
 element-copy-out-least : tie.Need-element-copy-out-least Inv-loop μ-loop
 element-copy-out-least c = omega (arith, inside c, c .before .before .before .before .before .pre .0)
@@ -63,6 +66,7 @@ least-of-spec =
     (λ c κs. search needs)
     loop-holds
     (λ c. search needs)
+    mul-least-2
     add-least
     add-least-2
     (λ c. search needs)

@@ -1,44 +1,23 @@
 -- `trims::settle` meets its contract. Assumes nothing.
 use borrow.Author.Needs.{needs}
-use mathlib.Core.List.{[]}
-use lib.ListN.{length-set}
-use Rattle.winners.proofs.Trimming.{settle-some, settle-few, settled-there}
+use Prim.Native.Nat.{_+_, _≤_}
+use native.Mathlib.Omega.{arith}
+use lib.ListN.{getD}
+use Rattle.winners.proofs.Trimming.{settled-there}
 use Rattle.winners.proofs.trims.settle.Statement.{statement}
 use Rattle.winners.proofs.trims.settle.Tie as tie
 
-least-of-requires : tie.Need-least-of-requires
-least-of-requires c κs =
-    let s = c .before .before .before in
-    (s .pre .0, settle-some (s .args .on) _ _ 0 _ [] (s .pre .0) (s .pre .1) (c .before .share .ensures .0) (s .pre .2))
+-- the row has at most eight bids
+few : (c : tie.Start) → getD (c .args .rows .now) (112 + c .args .client) 0 ≤ 8
+few c = let held = c .pre .2 .held in omega (arith, held .count, held .few)
 
 take-off-requires : tie.Need-take-off-requires
-take-off-requires c κs =
-    let s = c .before .before .before .before .before in
-    let count = c .before .before .before in (
-      s .pre .0,
-      settle-few (s .args .on) _ _ 0 _ [] (s .pre .0) (s .pre .1) (count .share .ensures .0) (s .pre .2),
-      simp length-set (s .pre .1),
-    )
+take-off-requires c κs = let s = c .before .before .before in (s .pre .0, few s, s .pre .1)
 
 returns : tie.Need-returns
 returns c =
-    let s = c .before .before .before .before .before .before in
-    let count = c .before .before .before .before in
-    let made = settle-few (s .args .on) _ _ 0 _ [] (s .pre .0) (s .pre .1) (count .share .ensures .0) (s .pre .2) in
-    settled-there (s .args .on) (s .args .slot) (count .share .result) _ _ _ (s .pre .0) (s .pre .1) (count .share .ensures .0) made
-    (c .before .before .least-of .ensures) (c .take-off .ensures)
+    let s = c .before .before .before .before in
+    settled-there (s .args .client) _ _ _ (s .pre .0) (few s) (c .before .before .least-of .ensures) (c .take-off .ensures)
 
 pub settle-spec : {M : Type 1} → statement M
-settle-spec =
-    tie.close
-    (tie.spec
-    (λ c. search needs)
-    (λ c. search needs)
-    (λ c. search needs)
-    (λ c κs. search needs)
-    (λ c. search needs)
-    (λ c. search needs)
-    (λ c. search needs)
-    least-of-requires
-    take-off-requires
-    returns)
+settle-spec = tie.close (tie.spec (λ c κs. search needs) take-off-requires returns)

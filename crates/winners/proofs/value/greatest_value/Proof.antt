@@ -11,11 +11,18 @@ returns c =
     let read = c .before .before .before .before .read .ensures in
     rw (c .refused .ensures .0, c .refused .ensures .1) (worth-refused _ _ _ _ (read .numbered) (c .before .before .if1 .taken))
 
+-- the book was read
+read-well : (c : tie.Else1) → c .before .before .read .result .number ≡ 0
+read-well c = omega (arith, c .if1 .left)
+
+of-sound-requires : tie.Need-of-sound-requires
+of-sound-requires c κs = c .before .before .read .ensures .sound (read-well c)
+
 returns-2 : tie.Need-returns-2
 returns-2 c =
-    let read = c .before .before .before .before .read .ensures in
-    let zero : c .before .before .before .before .read .result .number ≡ 0 = omega (arith, c .before .before .if1 .left) in
-    rw (sym (read .numbered) ∙ zero) (rw (read .sound zero, read .means zero) at (c .greatest-of .ensures))
+    let read = c .before .before .before .read .ensures in
+    let zero = read-well (c .before) in
+    rw (sym (read .numbered) ∙ zero) (rw (read .means zero) at (c .of-sound .ensures))
 
 pub greatest-value-spec : {M : Type 1} → statement M
 greatest-value-spec =
@@ -25,5 +32,5 @@ greatest-value-spec =
     (λ c. search needs)
     (λ c κs. search needs)
     returns
-    (λ c κs. search needs)
+    of-sound-requires
     returns-2)
