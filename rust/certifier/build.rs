@@ -4,8 +4,8 @@ use std::env;
 use std::path::{Path, PathBuf};
 use std::process::Command;
 
-/// Where to link from: a copy of the library whose functions begin at multiples of 64 bytes, as those in Rust do (.cargo/config.toml), so that a
-/// comparison of times does not hang on where the linker puts what. Where there is no objcopy, the library as it is.
+/// Where to link from: a copy of the library whose functions begin at multiples of 64 bytes, as those in Rust do (.cargo/config.toml), so
+/// that a comparison of times does not hang on where the linker puts what. Where there is no objcopy, the library as it is.
 fn placed(archive: &Path) -> PathBuf {
     let folder = PathBuf::from(env::var_os("OUT_DIR").expect("cargo gives OUT_DIR"));
     let copied = Command::new("objcopy")

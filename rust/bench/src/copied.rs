@@ -1,23 +1,30 @@
 //! Our search put into Rust line by line, with its bounds checks: the same arrays with the same things at the same places, the same loops
-//! and the same recursion.
+//! and the same recursion. Sets are numbers, in which bit c - 1 is client c.
 
 use crate::book::Book;
 use crate::lanes::{fits, in_lanes, least, used};
 use crate::surpluses::Surpluses;
 
-/// Where in the array of rows things stand: the weights of eight bids for each slot, then their hours, then how many there are. A client's
-/// slot is 7 less its number; slot 0 is nobody's.
-const ROW: usize = 8;
-const ASKED: usize = 56;
+/// Where in the array of rows things stand: by client, a row of eight bids, of each its weight and then its hours; then by client how many
+/// there are. Row 0 is nobody's.
+const ROW_BIDS: usize = 8;
+const ROW: usize = 16;
 const COUNTS: usize = 112;
 type Rows = [u64; 119];
 type Values = [u64; 64];
+/// The set of all clients.
+const ALL: usize = 63;
+
+/// The clients that stand and are not discarded.
+fn kept_in(book: &Book, discard: u8) -> u8 {
+    (1..7).rev().fold(0, |kept, c| u8::from(book.stays(c, discard)) + 2 * kept)
+}
 
 /// The place for a weight in a row that falls.
-fn place_for(slot: usize, weight: u64, count: usize, rows: &Rows) -> usize {
+fn place_for(client: usize, weight: u64, count: usize, rows: &Rows) -> usize {
     let mut d = count;
     while 0 < d {
-        if weight <= rows[ROW * slot + d - 1] {
+        if weight <= rows[ROW * client + 2 * (d - 1)] {
             return d;
         }
         d -= 1;
@@ -25,81 +32,112 @@ fn place_for(slot: usize, weight: u64, count: usize, rows: &Rows) -> usize {
     0
 }
 
-fn insert(slot: usize, weight: u64, hours: u64, rows: &mut Rows) {
-    let count = rows[COUNTS + slot] as usize;
-    let d = place_for(slot, weight, count, rows);
+fn insert(client: usize, weight: u64, hours: u64, rows: &mut Rows) {
+    let count = rows[COUNTS + client] as usize;
+    let d = place_for(client, weight, count, rows);
     for e in (d + 1..=count).rev() {
-        let q = ROW * slot + e;
-        rows[q] = rows[q - 1];
-        rows[ASKED + q] = rows[ASKED + q - 1];
+        let q = ROW * client + 2 * e;
+        rows[q] = rows[q - 2];
+        rows[q + 1] = rows[q - 1];
     }
-    let q = ROW * slot + d;
+    let q = ROW * client + 2 * d;
     rows[q] = weight;
-    rows[ASKED + q] = hours;
-    rows[COUNTS + slot] = count as u64 + 1;
+    rows[q + 1] = hours;
+    rows[COUNTS + client] = count as u64 + 1;
 }
 
-fn fill(book: &Book, used: u64, rows: &mut Rows) {
+/// Whose row a bid goes into: nobody's where it does not fit or its client is not kept.
+fn row_for(client: u8, kept: u8, after: u64) -> usize {
+    if !fits(after) {
+        return 0;
+    }
+    if (kept >> (client - 1)) & 1 == 1 { usize::from(client) } else { 0 }
+}
+
+fn fill(book: &Book, discard: u8, used: u64, rows: &mut Rows) {
     *rows = [0; 119];
+    let kept = kept_in(book, discard);
     for i in 0..book.bids {
         let hours = in_lanes(book.hours[i]);
-        let slot = if fits(used + hours) { 7 - usize::from(book.client[i]) } else { 0 };
-        if slot != 0 {
-            insert(slot, u64::from(book.amount[i]), hours, rows);
+        let client = row_for(book.client[i], kept, used + hours);
+        if client != 0 {
+            insert(client, u64::from(book.amount[i]), hours, rows);
         }
     }
 }
 
-/// The row of a client that is not `on` is emptied; least hours are taken off the others and handed back.
-fn settle(on: bool, slot: usize, rows: &mut Rows) -> u64 {
-    let count = if on { rows[COUNTS + slot] } else { 0 };
-    rows[COUNTS + slot] = count;
-    let mut less = if 0 < count { rows[ASKED + ROW * slot] } else { 0 };
-    for d in 0..count as usize {
-        less = least(less, rows[ASKED + ROW * slot + d]);
+/// A client's least hours are taken off its bids and handed back.
+fn settle(client: usize, rows: &mut Rows) -> u64 {
+    let count = rows[COUNTS + client] as usize;
+    let mut less = if 0 < count { rows[ROW * client + 1] } else { 0 };
+    for d in 0..count {
+        less = least(less, rows[ROW * client + 2 * d + 1]);
     }
-    for d in 0..count as usize {
-        rows[ASKED + ROW * slot + d] -= less;
+    for d in 0..count {
+        rows[ROW * client + 2 * d + 1] -= less;
     }
     less
 }
 
-/// The hours that the least hours of each set take.
-fn fill_taken(used: u64, leasts: &[u64; 7], taken: &mut Values) {
-    taken[0] = used;
-    for set in 1..64 {
-        let slot = highest(set);
-        let before = taken[others(set, slot)];
-        taken[set] = if fits(before) { before + leasts[slot] } else { before };
+/// One client's least hours more.
+fn with_least(before: u64, least: u64) -> u64 {
+    if fits(before) { before + least } else { before }
+}
+
+fn first(set: usize) -> usize {
+    (set as u64).trailing_zeros() as usize + 1
+}
+
+fn others(set: usize, first: usize) -> usize {
+    set - (1 << (first - 1))
+}
+
+/// The search for the last client: the first of its bids that fits, if it beats the floor.
+fn last_bid(set: usize, used: u64, floor: u64, rows: &Rows) -> u64 {
+    let client = first(set);
+    let count = rows[COUNTS + client] as usize;
+    let mut d = 0;
+    while d < ROW_BIDS {
+        if count <= d {
+            return floor;
+        }
+        let weight = rows[ROW * client + 2 * d];
+        if weight <= floor {
+            return floor;
+        }
+        let after = used + rows[ROW * client + 2 * d + 1];
+        if fits(after) {
+            return weight;
+        }
+        d += 1;
     }
-}
-
-fn highest(set: usize) -> usize {
-    64 - (set as u64).leading_zeros() as usize
-}
-
-fn others(set: usize, slot: usize) -> usize {
-    set - (1 << (slot - 1))
+    floor
 }
 
 fn search_full(ahead: usize, set: usize, used: u64, floor: u64, rows: &Rows, values: &Values) -> u64 {
-    if ahead == 0 {
-        return floor;
+    if ahead == 1 {
+        return last_bid(set, used, floor, rows);
     }
-    let slot = highest(set);
-    let rest = others(set, slot);
+    let client = first(set);
+    let rest = others(set, client);
     let ceiling = values[rest];
-    let count = rows[COUNTS + slot] as usize;
+    let count = rows[COUNTS + client] as usize;
     let mut top = floor;
     let mut d = 0;
     while d < count {
-        let weight = rows[ROW * slot + d];
+        let weight = rows[ROW * client + 2 * d];
         if weight + ceiling <= top {
             return top;
         }
-        let after = used + rows[ASKED + (ROW * slot + d)];
+        let after = used + rows[ROW * client + 2 * d + 1];
         if fits(after) {
-            top = weight + search_full(ahead - 1, rest, after, top.saturating_sub(weight), rows, values);
+            let base = top.saturating_sub(weight);
+            let more = if ahead == 2 {
+                last_bid(rest, after, base, rows)
+            } else {
+                search_full(ahead - 1, rest, after, base, rows, values)
+            };
+            top = weight + more;
         }
         d += 1;
     }
@@ -107,15 +145,17 @@ fn search_full(ahead: usize, set: usize, used: u64, floor: u64, rows: &Rows, val
 }
 
 fn floor_of(set: usize, values: &Values) -> u64 {
-    let without = |j: usize| if (set >> j) & 1 == 1 { values[set - (1 << j)] } else { 0 };
-    (0..6).fold(0, |floor, j| floor.max(without(j)))
+    let mut floor = 0;
+    let mut left = set;
+    while 0 < left {
+        let rest = others(left, first(left));
+        floor = floor.max(values[set - (left - rest)]);
+        left = rest;
+    }
+    floor
 }
 
-fn value_of(set: usize, used: u64, held: usize, rows: &Rows, values: &Values) -> u64 {
-    let some = set & held;
-    if some < set {
-        return values[some];
-    }
+fn value_of(set: usize, used: u64, rows: &Rows, values: &Values) -> u64 {
     let floor = floor_of(set, values);
     if !fits(used) {
         return floor;
@@ -123,27 +163,64 @@ fn value_of(set: usize, used: u64, held: usize, rows: &Rows, values: &Values) ->
     search_full(set.count_ones() as usize, set, used, floor, rows, values)
 }
 
+fn weigh_sets(held: usize, used: u64, rows: &Rows, leasts: &[u64; 7]) -> Values {
+    let mut values = [0; 64];
+    let mut taken = [used; 64];
+    for set in 1..64 {
+        let some = set & held;
+        if some < set {
+            values[set] = values[some];
+        } else {
+            let first = first(set);
+            taken[set] = with_least(taken[others(set, first)], leasts[first]);
+            values[set] = value_of(set, taken[set], rows, &values);
+        }
+    }
+    values
+}
+
 fn weigh_all(book: &Book, discard: u8) -> Values {
     let used = used(book.supply);
     let mut rows = [0; 119];
-    fill(book, used, &mut rows);
+    fill(book, discard, used, &mut rows);
     let mut leasts = [0; 7];
-    for t in 1..7 {
-        leasts[t] = settle(book.stays(7 - t, discard), t, &mut rows);
+    for c in 1..7 {
+        leasts[c] = settle(c, &mut rows);
     }
-    let mut taken = [0; 64];
-    fill_taken(used, &leasts, &mut taken);
-    let held = (1..7).rev().fold(0, |held, t| usize::from(0 < rows[COUNTS + t]) + 2 * held);
-    let mut values = [0; 64];
-    for set in 1..64 {
-        values[set] = value_of(set, taken[set], held, &rows, &values);
+    let held = (1..7).rev().fold(0, |held, c| usize::from(0 < rows[COUNTS + c]) + 2 * held);
+    if held == 0 {
+        return [0; 64];
     }
-    values
+    weigh_sets(held, used, &rows, &leasts)
+}
+
+/// The discard byte of each set by its number: with each client the sets double.
+fn discards_of(clients: [u8; 6], count: usize) -> [u8; 64] {
+    let mut discards = [0; 64];
+    for j in 0..count {
+        let (end, bit) = (1 << j, 1 << (clients[j] - 1));
+        for set in 0..end {
+            discards[end + set] = discards[set] + bit;
+        }
+    }
+    discards
+}
+
+fn sigma_by(value: u64, discards: [u8; 64], end: usize, values: &Values) -> Values {
+    let mut sigma = [0; 64];
+    for set in 1..end {
+        let kept = ALL - usize::from(discards[set]);
+        sigma[set] = value.saturating_sub(values[kept]);
+    }
+    sigma
 }
 
 /// The answer that ours gives, handed out as ours is: by a call.
 #[inline(never)]
 pub fn surpluses(book: &Book) -> Surpluses {
     let values = weigh_all(book, 0);
-    Surpluses::of(std::array::from_fn(|discard| values[63 - ((discard as u8).reverse_bits() >> 2) as usize]))
+    let value = values[ALL];
+    let discards = discards_of([1, 2, 3, 4, 5, 6], book.clients);
+    let sigma = sigma_by(value, discards, 1 << book.clients, &values);
+    Surpluses { value, sigma }
 }

@@ -29,9 +29,22 @@ fn floor_of(set: usize, values: &[u64; SETS]) -> u64 {
     floor
 }
 
+/// The same search for one client.
+fn last(row: &Row, used: u64, floor: u64) -> u64 {
+    for bid in row.bids() {
+        if bid.weight <= floor {
+            return floor;
+        }
+        if fits(used + bid.hours) {
+            return bid.weight;
+        }
+    }
+    floor
+}
+
 /// The value of the best combination with a bid of each client of a set, or the floor where that is no less. The value of the clients still
-/// to come is a ceiling.
-fn search(rows: &[Row; 6], values: &[u64; SETS], set: usize, used: u64, floor: u64) -> u64 {
+/// to come is a ceiling. Where the last client is apart, it is searched without a further call, as in ours.
+fn search<const APART: bool>(rows: &[Row; 6], values: &[u64; SETS], set: usize, used: u64, floor: u64) -> u64 {
     let (client, rest) = split(set);
     let ceiling = values[rest];
     let mut top = floor;
@@ -44,7 +57,13 @@ fn search(rows: &[Row; 6], values: &[u64; SETS], set: usize, used: u64, floor: u
             if rest == 0 {
                 return bid.weight;
             }
-            top = bid.weight + search(rows, values, rest, after, top.saturating_sub(bid.weight));
+            let base = top.saturating_sub(bid.weight);
+            let more = if APART && rest.is_power_of_two() {
+                last(&rows[rest.trailing_zeros() as usize], after, base)
+            } else {
+                search::<APART>(rows, values, rest, after, base)
+            };
+            top = bid.weight + more;
         }
     }
     top
@@ -60,7 +79,7 @@ impl Values {
 }
 
 /// The values with clients discarded for good. Clients without a bid that can be taken are left out.
-pub fn values(book: &Book, discard: u8) -> Values {
+pub fn values_by<const APART: bool>(book: &Book, discard: u8) -> Values {
     let used = used(book.supply);
     let rows = rows(book, used, discard);
     let held = (0..6).fold(0, |set, client| set | usize::from(!rows[client].bids().is_empty()) << client);
@@ -74,9 +93,14 @@ pub fn values(book: &Book, discard: u8) -> Values {
         let (client, rest) = split(set);
         taken[set] = taken[rest] + if fits(taken[rest]) { rows[client].least } else { 0 };
         let floor = floor_of(set, &values);
-        values[set] = if fits(taken[set]) { search(&rows, &values, set, taken[set], floor) } else { floor };
+        values[set] = if fits(taken[set]) { search::<APART>(&rows, &values, set, taken[set], floor) } else { floor };
     }
     Values(values)
+}
+
+/// The values by the search as it is, with calls down to the last client.
+pub fn values(book: &Book, discard: u8) -> Values {
+    values_by::<false>(book, discard)
 }
 
 /// The greatest value with clients discarded.
@@ -86,8 +110,8 @@ pub fn greatest(book: &Book, discard: u8) -> u64 {
 
 /// The answer that ours gives, handed out as ours is: by a call.
 #[inline(never)]
-pub fn surpluses(book: &Book) -> Surpluses {
-    let values = values(book, 0);
+pub fn surpluses<const APART: bool>(book: &Book) -> Surpluses {
+    let values = values_by::<APART>(book, 0);
     Surpluses::of(std::array::from_fn(|discard| values.without(discard as u8)))
 }
 

@@ -50,7 +50,8 @@ impl Found {
         let same = self.tries.iter().filter(|one| one.fault.same.is_some()).count();
         let faults = self.tries.len() - same;
         let inputs = self.inputs;
-        format!("{lines}{noticed} of {faults} faults noticed by {inputs} inputs, the last by input {last}; {same} harmless changes beside them\n")
+        let said = format!("{noticed} of {faults} faults noticed by {inputs} inputs, the last by input {last}");
+        format!("{lines}{said}; {same} harmless changes beside them\n")
     }
 }
 

@@ -1,4 +1,5 @@
-//! The test vectors of crates/vectors, and what must be printed for them: worked out by the reference, so by another method than the proved code's.
+//! The test vectors of crates/vectors, and what must be printed for them: worked out by the reference, so by another method than the proved
+//! code's.
 //!
 //! - `held`: a book as a value, as layer 1 hands it out; what it means and the question that it fails
 //! - `answers`: what must be printed for a line

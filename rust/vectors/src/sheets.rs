@@ -101,7 +101,8 @@ fn over_value() -> Vec<Line> {
 fn six_winners() -> Vec<u8> {
     let winner = |j: u64| W { x: 1_000_000_000_000_000_000 + j, z: 4_000_000_000 + j as u32, r: 2_000 + j, t: u64::MAX - j };
     let set = |set: usize| (set, 100 + set as u32, 1 << set);
-    S { bids: vec![9, 8, 7, 255, 0, 1], q: u32::MAX, s: 77, winners: (0..6).map(winner).collect(), g: -5, sets: (1..64).map(set).collect() }.bytes()
+    let (winners, sets) = ((0..6).map(winner).collect(), (1..64).map(set).collect());
+    S { bids: vec![9, 8, 7, 255, 0, 1], q: u32::MAX, s: 77, winners, g: -5, sets }.bytes()
 }
 
 fn readings() -> Vec<Line> {

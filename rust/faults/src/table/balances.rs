@@ -56,7 +56,11 @@ pub const GROUPS: &[Group] = &[
         topic: "question 13",
         file: "questions",
         faults: &[
-            same_in_gate("sheet.q * (of_sets + of_winners) == sheet.s * discounts", "sheet.q * (of_sets + of_winners) <= sheet.s * discounts", "after 10 to 12 the left side is never the smaller"),
+            same_in_gate(
+                "sheet.q * (of_sets + of_winners) == sheet.s * discounts",
+                "sheet.q * (of_sets + of_winners) <= sheet.s * discounts",
+                "after 10 to 12 the left side is never the smaller",
+            ),
             gate("sheet.q * (of_sets + of_winners) == sheet.s * discounts", "sheet.q * (of_sets + of_winners) >= sheet.s * discounts"),
             hand("sheet.q * (of_sets + of_winners) == sheet.s * discounts", "(of_sets + of_winners) == sheet.s * discounts"),
             hand("sheet.q * (of_sets + of_winners) == sheet.s * discounts", "sheet.q * (of_sets + of_winners) == discounts"),
@@ -68,7 +72,10 @@ pub const GROUPS: &[Group] = &[
         topic: "question 14",
         file: "questions",
         faults: &[
-            gate("let distance = sheet.q * weights.sigma_of_one(j)", "let distance = sheet.q * weights.sigma_of_one(j).min(weights.rho[j])"),
+            gate(
+                "let distance = sheet.q * weights.sigma_of_one(j)",
+                "let distance = sheet.q * weights.sigma_of_one(j).min(weights.rho[j])",
+            ),
             hand("distance == sheet.g", "distance >= sheet.g"),
             hand("distance == sheet.g", "distance <= sheet.g"),
             hand("+ winner.r - winner.t", "- winner.t"),

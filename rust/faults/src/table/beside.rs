@@ -28,7 +28,11 @@ pub const GROUPS: &[Group] = &[
         file: "weights",
         faults: &[
             gate("bid.amount - book.reserves(bid)", "bid.amount"),
-            gate("v - values.greatest_without(clients_of_set(book, winners, set))", "(0..winners.len()).filter(|&k| holds(set, k)).map(|k| v - values.greatest_without(clients_of_set(book, winners, 1 << k))).sum()"),
+            gate(
+                "v - values.greatest_without(clients_of_set(book, winners, set))",
+                "(0..winners.len()).filter(|&k| holds(set, k))\
+                    .map(|k| v - values.greatest_without(clients_of_set(book, winners, 1 << k))).sum()",
+            ),
         ],
     },
     Group {
@@ -45,12 +49,30 @@ pub const GROUPS: &[Group] = &[
         topic: "order",
         file: "answer",
         faults: &[
-            hand("ask(4, question_4(&book))?;\n    ask(5, question_5(&book))?;", "ask(5, question_5(&book))?;\n    ask(4, question_4(&book))?;"),
-            hand("ask(7, question_7(&sheet))?;\n    ask(8, question_8(book, &sheet))?;", "ask(8, question_8(book, &sheet))?;\n    ask(7, question_7(&sheet))?;"),
-            hand("ask(9, question_9(book, sheet, weights))?;\n    ask(10, question_10(sheet, weights))?;", "ask(10, question_10(sheet, weights))?;\n    ask(9, question_9(book, sheet, weights))?;"),
-            gate("ask(10, question_10(sheet, weights))?;\n    ask(11, question_11(sheet, weights))?;", "ask(11, question_11(sheet, weights))?;\n    ask(10, question_10(sheet, weights))?;"),
-            hand("ask(12, question_12(sheet))?;\n    ask(13, question_13(sheet, weights))?;", "ask(13, question_13(sheet, weights))?;\n    ask(12, question_12(sheet))?;"),
-            hand("ask(14, question_14(sheet, weights))?;\n    ask(15, question_15(sheet, weights))", "ask(15, question_15(sheet, weights))?;\n    ask(14, question_14(sheet, weights))"),
+            hand(
+                "ask(4, question_4(&book))?;\n    ask(5, question_5(&book))?;",
+                "ask(5, question_5(&book))?;\n    ask(4, question_4(&book))?;",
+            ),
+            hand(
+                "ask(7, question_7(&sheet))?;\n    ask(8, question_8(book, &sheet))?;",
+                "ask(8, question_8(book, &sheet))?;\n    ask(7, question_7(&sheet))?;",
+            ),
+            hand(
+                "ask(9, question_9(book, sheet, weights))?;\n    ask(10, question_10(sheet, weights))?;",
+                "ask(10, question_10(sheet, weights))?;\n    ask(9, question_9(book, sheet, weights))?;",
+            ),
+            gate(
+                "ask(10, question_10(sheet, weights))?;\n    ask(11, question_11(sheet, weights))?;",
+                "ask(11, question_11(sheet, weights))?;\n    ask(10, question_10(sheet, weights))?;",
+            ),
+            hand(
+                "ask(12, question_12(sheet))?;\n    ask(13, question_13(sheet, weights))?;",
+                "ask(13, question_13(sheet, weights))?;\n    ask(12, question_12(sheet))?;",
+            ),
+            hand(
+                "ask(14, question_14(sheet, weights))?;\n    ask(15, question_15(sheet, weights))",
+                "ask(15, question_15(sheet, weights))?;\n    ask(14, question_14(sheet, weights))",
+            ),
         ],
     },
     Group {
@@ -64,7 +86,10 @@ pub const GROUPS: &[Group] = &[
         topic: "layout",
         file: "sheet",
         faults: &[
-            hand("winner.z = reader.number(4)?;\n            winner.r = reader.number(8)?;", "winner.r = reader.number(8)?;\n            winner.z = reader.number(4)?;"),
+            hand(
+                "winner.z = reader.number(4)?;\n            winner.r = reader.number(8)?;",
+                "winner.r = reader.number(8)?;\n            winner.z = reader.number(4)?;",
+            ),
         ],
     },
 ];

@@ -41,7 +41,11 @@ pub const GROUPS: &[Group] = &[
         topic: "question 8",
         file: "questions",
         faults: &[
-            same_in_gate("client(pair[0]) < client(pair[1])", "client(pair[0]) <= client(pair[1])", "two bids of one client are no combination"),
+            same_in_gate(
+                "client(pair[0]) < client(pair[1])",
+                "client(pair[0]) <= client(pair[1])",
+                "two bids of one client are no combination",
+            ),
             gate("client(pair[0]) < client(pair[1])", "true"),
             hand("is_combination(book, &sheet.bids()) &&", "sheet.bids().iter().all(|&b| book.bid(b).is_some()) &&"),
         ],
