@@ -3,7 +3,7 @@
 use crate::bytes;
 ghost use mathlib.Core.Path.{_≡_};
 ghost use mathlib.Core.Bool.{cond};
-ghost use Prim.Native.Nat.{_+_, _/_, _%_, _≤_};
+ghost use Prim.Native.Nat.{_+_, _/_, _%_, _≤_, _<_};
 ghost use lib.Dec.{eqb};
 ghost use lib.ListN.{length, getD};
 ghost use Rattle.sets.specs.Tables.{tabulate};
@@ -14,32 +14,50 @@ ghost use Rattle.book.specs.Sound.{no-kind};
 ghost use Rattle.book.specs.Reading.{cap-of};
 ghost use Rattle.book.specs.Room.{Bids-inside};
 
-// The supplies of k kinds.
+// The supply of a kind; 0 past the last of k kinds.
+fn supply_at(input: &[u8], k: usize, kind: usize) -> u8
+    requires { ⌜ kind < 4 ⌝ }
+    ensures { λ r. ⌜ r ≡ getD (kinds-in k 4 (now (input .entry))) kind no-kind .supply ⌝ }
+{
+    if kind < k {
+        bytes::byte_at(input, 4 + 3 * kind)
+    } else {
+        0
+    }
+}
+
+// The supplies of k kinds: four single numbers, since of a loop a compiler makes a copy that it then waits for.
 pub(crate) fn supplies(input: &[u8], k: usize) -> [u8; 4]
-    requires { ⌜ k ≤ 4 ⌝ }
     ensures { λ r. ⌜ r ≡ tabulate 4 (λ j. getD (kinds-in k 4 (now (input .entry))) j no-kind .supply) ⌝ }
 {
-    let mut supply = [0u8; 4];
-    let mut i: usize = 0;
-    while i < k {
-        supply[i] = bytes::byte_at(input, 4 + 3 * i);
-        i = i + 1;
+    let first = supply_at(input, k, 0);
+    let second = supply_at(input, k, 1);
+    let third = supply_at(input, k, 2);
+    let fourth = supply_at(input, k, 3);
+    [first, second, third, fourth]
+}
+
+// The reserve of a kind; 0 past the last.
+fn reserve_at(input: &[u8], k: usize, kind: usize) -> u16
+    requires { ⌜ kind < 4 ⌝ }
+    ensures { λ r. ⌜ r ≡ getD (kinds-in k 4 (now (input .entry))) kind no-kind .reserve ⌝ }
+{
+    if kind < k {
+        bytes::u16_at(input, 4 + 3 * kind + 1)
+    } else {
+        0
     }
-    supply
 }
 
 // The reserves of k kinds.
 pub(crate) fn reserves(input: &[u8], k: usize) -> [u16; 4]
-    requires { ⌜ k ≤ 4 ⌝ }
     ensures { λ r. ⌜ r ≡ tabulate 4 (λ j. getD (kinds-in k 4 (now (input .entry))) j no-kind .reserve) ⌝ }
 {
-    let mut reserve = [0u16; 4];
-    let mut i: usize = 0;
-    while i < k {
-        reserve[i] = bytes::u16_at(input, 4 + 3 * i + 1);
-        i = i + 1;
-    }
-    reserve
+    let first = reserve_at(input, k, 0);
+    let second = reserve_at(input, k, 1);
+    let third = reserve_at(input, k, 2);
+    let fourth = reserve_at(input, k, 3);
+    [first, second, third, fourth]
 }
 
 // The cap of a client of that status: 65,535 hours, which no bid exceeds, where it stands, and 0 where it is withdrawn.

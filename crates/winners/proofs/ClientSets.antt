@@ -11,12 +11,12 @@ use native.Mathlib.Decide.{ℕ-discrete, decLt}
 use native.Mathlib.Omega.{arith}
 use borrow.Author.Tests.{eqb-true, eq-eqb, ne-eqb}
 use lib.Bits.{bitAnd, and-shr, and-step, and-le-l}
-use lib.Count.{ones, ones-step, under, trailingZeros}
+use lib.Count.{under, trailingZeros}
 use lib.Dec.{eqb}
 use lib.ListN.{length}
 use lib.Pow.{pow-pos}
-use Rattle.sets.specs.Sets.{has, set-of}
-use Rattle.sets.proofs.Members.{and-mask, has-low, has-half, has-zero, has-above, has-set-of, set-of-lt, set-ext}
+use Rattle.sets.specs.Sets.{has}
+use Rattle.sets.proofs.Members.{and-mask, has-low, has-half, has-zero, has-above, set-ext}
 use Rattle.market.specs.Market.{Market, at}
 use Rattle.market.specs.Greatest.{choose}
 use Rattle.market.specs.Members.{reach, members, without, Row-of, choose-in}
@@ -179,37 +179,9 @@ clients-few keep (suc k) c = ⊎-elim
     (λ (n : keep c ≡ false). rw n (omega (arith, clients-few keep k (suc c))))
     (either (keep c))
 
--- a number's ones, with its lowest digit
-ones-with : (b : Bool) (n : ℕ) → ones (cond b 1 0 + 2 * n) ≡ cond b 1 0 + ones n
-ones-with true n =
-    let low : (1 + 2 * n) % 2 ≡ 1 = omega arith in
-    let half : (1 + 2 * n) / 2 ≡ n = omega arith in
-    ones-step (1 + 2 * n) ∙ (rw (low, half))
-ones-with false n =
-    let low : (0 + 2 * n) % 2 ≡ 0 = omega arith in
-    let half : (0 + 2 * n) / 2 ≡ n = omega arith in
-    ones-step (0 + 2 * n) ∙ (rw (low, half))
-
-longer : (b : Bool) (x : ℕ) (xs : List ℕ) → length (cond b (x ∷ xs) xs) ≡ cond b 1 0 + length xs
-longer true x xs = omega arith
-longer false x xs = omega arith
-
-size-of : (keep : ℕ → Bool) (k c : ℕ) → length (members keep k c) ≡ ones (set-of k (λ j. keep (c + j)))
-unfolding members set-of ones
-size-of keep zero c = refl
-size-of keep (suc k) c =
-    let here : c + 0 ≡ c = omega arith in
-    let rest : set-of k (λ j. keep (c + suc j)) ≡ set-of k (λ j. keep (suc c + j))
-    = ap (λ (f : ℕ → Bool). set-of k f) (fun-ext (λ j. ap keep (omega arith))) in
-    rw (here, rest) (longer (keep c) c (members keep k (suc c)) ∙ ap (λ (n : ℕ). cond (keep c) 1 0 + n) (size-of keep k (suc c))
-    ∙ sym (ones-with (keep c) (set-of k (λ j. keep (suc c + j)))))
-
-pub size-is : (s : ℕ) → s < 64 → ones s ≡ length (clients-in s)
-size-is s l =
-    let all : s ≡ set-of 6 (λ j. has s (1 + j - 1))
-    = set-ext 6 s _ l (set-of-lt 6 (λ j. has s (1 + j - 1)))
-    (λ k b. sym (has-set-of 6 (λ j. has s (1 + j - 1)) k b ∙ ap (λ (x : ℕ). has s x) (omega arith))) in
-    ap ones all ∙ sym (size-of (λ c. has s (c - 1)) 6 1)
+-- with the first client one more than the others
+pub clients-one : (s c : ℕ) → First s c → length (clients-in s) ≡ length (clients-in (s - 2 ^ (c - 1))) + 1
+clients-one s c f = omega (arith, ap length (clients-first s c f))
 
 -- THE LOWEST BIT
 record Lowest (s j : ℕ) : Type 0 where

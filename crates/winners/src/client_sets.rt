@@ -1,8 +1,7 @@
 // Sets of clients as numbers: bit c - 1 stands for client c.
 ghost use mathlib.Core.Path.{_≡_};
 ghost use Prim.Native.Nat.{_-_, _^_, _≤_, _<_};
-ghost use lib.ListN.{length};
-ghost use Rattle.winners.specs.ClientSets.{clients-in, First};
+ghost use Rattle.winners.specs.ClientSets.{First};
 
 // The first client of a set that is not empty.
 pub(crate) fn first(set: usize) -> usize
@@ -10,14 +9,6 @@ pub(crate) fn first(set: usize) -> usize
     ensures { λ r. ⌜ First set r ⌝ }
 {
     u64::trailing_zeros(set as u64) as usize + 1
-}
-
-// How many clients a set has.
-pub(crate) fn size(set: usize) -> usize
-    requires { ⌜ set < 64 ⌝ }
-    ensures { λ r. ⌜ r ≡ length (clients-in set) ⌝ }
-{
-    u64::count_ones(set as u64) as usize
 }
 
 // The set without its first client.

@@ -15,27 +15,37 @@ use book::Book;
 ghost use mathlib.Core.Path.{_≡_};
 ghost use Prim.Native.Nat.{_+_, _<_};
 ghost use lib.Dec.{ltb};
-ghost use lib.ListN.{getD};
+ghost use lib.ListN.{length, getD};
 ghost use Rattle.sets.specs.Sets.{set-of};
 ghost use Rattle.book.specs.Book.{supplies};
 ghost use Rattle.book.specs.Value.{book-of, sound-number};
+ghost use Rattle.winners.specs.ClientSets.{clients-in};
 ghost use Rattle.winners.specs.Combinations.{amount-of};
 ghost use Rattle.winners.specs.Passes.{Floor-past, Values-to, Weighable, Set-weighed, Passable, Sets-weighed};
 ghost use Rattle.winners.specs.Rows.{counts-from, searched};
 
-// A set's floor: one client after another is left out.
-fn floor_of(set: usize, values: &[u64; SETS]) -> u64
+// A set's floor, and how many clients it has.
+struct Floor {
+    value: u64,
+    clients: usize,
+}
+
+// One client after another is left out.
+fn floor_of(set: usize, values: &[u64; SETS]) -> Floor
     requires { ⌜ set < 64 ⌝ }
-    ensures { λ r. ⌜ Floor-past 0 set (now (values .entry)) r ⌝ }
+    ensures { λ r. ⌜ Floor-past 0 set (now (values .entry)) (r .value) ⌝ }
+    ensures { λ r. ⌜ r .clients ≡ length (clients-in set) ⌝ }
 {
-    let mut floor: u64 = 0;
+    let mut value: u64 = 0;
+    let mut clients: usize = 0;
     let mut left = set;
     while 0 < left {
         let rest = client_sets::others(left, client_sets::first(left));
-        floor = numbers::larger(floor, values[set - (left - rest)]);
+        value = numbers::larger(value, values[set - (left - rest)]);
+        clients += 1;
         left = rest;
     }
-    floor
+    Floor { value, clients }
 }
 
 // The set of the clients that have a bid.
@@ -58,9 +68,9 @@ fn value_of(set: usize, used: u64, rows: &[u64; ROWS_END], values: &[u64; SETS])
 {
     let floor = floor_of(set, values);
     if 0 < lanes::guards_set(used) {
-        return floor;
+        return floor.value;
     }
-    full::search_full(client_sets::size(set), set, used, floor, rows, values)
+    full::search_full(floor.clients, set, used, floor.value, rows, values)
 }
 
 // The values of all sets. Clients without a bid are left out, and for the others the least hours are added up from set to set.

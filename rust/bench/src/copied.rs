@@ -144,23 +144,31 @@ fn search_full(ahead: usize, set: usize, used: u64, floor: u64, rows: &Rows, val
     top
 }
 
-fn floor_of(set: usize, values: &Values) -> u64 {
-    let mut floor = 0;
+/// A set's floor, and how many clients it has.
+struct Floor {
+    value: u64,
+    clients: usize,
+}
+
+fn floor_of(set: usize, values: &Values) -> Floor {
+    let mut value = 0;
+    let mut clients = 0;
     let mut left = set;
     while 0 < left {
         let rest = others(left, first(left));
-        floor = floor.max(values[set - (left - rest)]);
+        value = value.max(values[set - (left - rest)]);
+        clients += 1;
         left = rest;
     }
-    floor
+    Floor { value, clients }
 }
 
 fn value_of(set: usize, used: u64, rows: &Rows, values: &Values) -> u64 {
     let floor = floor_of(set, values);
     if !fits(used) {
-        return floor;
+        return floor.value;
     }
-    search_full(set.count_ones() as usize, set, used, floor, rows, values)
+    search_full(floor.clients, set, used, floor.value, rows, values)
 }
 
 fn weigh_sets(held: usize, used: u64, rows: &Rows, leasts: &[u64; 7]) -> Values {

@@ -1,47 +1,16 @@
--- `filling::supplies` meets its contract. The loop keeps the entries passed. Assumes nothing.
+-- `filling::supplies` meets its contract: each of the four is its supply. Assumes nothing.
 use borrow.Author.Needs.{needs}
-use Prim.Native.Nat.{_-_, _≤_}
-use lib.ListN.{getD}
-use Rattle.sets.proofs.Filled.{Filled, filled-none, filled-next}
-use Rattle.book.specs.Layout.{kinds-in}
-use Rattle.book.specs.Sound.{no-kind}
-use Rattle.book.proofs.Entered.{supply-entry, supply-past}
-use Rattle.book.proofs.Whole.{filled-whole}
+use Rattle.sets.specs.Tables.{tabulate}
 use Rattle.book.proofs.filling.supplies.Statement.{statement}
 use Rattle.book.proofs.filling.supplies.Tie as tie
 
-abbrev Inv-loop : tie.InvT-loop
-Inv-loop input k supply₀ i₀ supply i = (i ≤ k) × Filled 4 (λ j. getD (kinds-in k 4 input) j no-kind .supply) i supply
-
-abbrev μ-loop : tie.MeasureT-loop
-μ-loop input k supply₀ i₀ supply i = k - i
-
-loop-holds : tie.Need-loop-holds Inv-loop μ-loop
-loop-holds c = (search needs, filled-none 4 _)
-
-loop-again : tie.Need-loop-again Inv-loop μ-loop
-loop-again c =
-    let loop = c .before .before .loop in (
-      search needs,
-      filled-next 4 _ _ _ _ (search needs) (supply-entry _ 4 _ (loop .i) _ (c .before .loop-test .taken) (c .byte-at .ensures))
-          (loop .inv .1),
-    )
-
-returns : tie.Need-returns Inv-loop μ-loop
-returns c = filled-whole 4 _ _ _ (c .before .loop .inv .1) (λ j l. supply-past _ 4 _ j (search needs))
+returns : tie.Need-returns
+unfolding tabulate
+returns c =
+    let third = c .before in
+    let second = third .before in
+    let first = second .before in
+    rw (first .supply-at .ensures, second .supply-at2 .ensures, third .supply-at3 .ensures, c .supply-at4 .ensures)
 
 pub supplies-spec : {M : Type 1} → statement M
-supplies-spec =
-    tie.close
-    (tie.spec
-    Inv-loop
-    μ-loop
-    loop-holds
-    (λ c. search needs)
-    (λ c. search needs)
-    (λ c κs. search needs)
-    (λ c. search needs)
-    (λ c. search needs)
-    (λ c. search needs)
-    loop-again
-    returns)
+supplies-spec = tie.close (tie.spec (λ c κs. search needs) (λ c κs. search needs) (λ c κs. search needs) (λ c κs. search needs) returns)

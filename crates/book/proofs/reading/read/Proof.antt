@@ -48,12 +48,6 @@ returns-2 c =
     let no = sym (test .are-counts-good .ensures) ∙ not-true _ (c .before .if2 .taken) in
     rw (c .refused2 .ensures) (refused-is _ 2 (refused-by-two _ (one (test .before)) no) (λ z. omega arith))
 
-supplies-requires : tie.Need-supplies-requires
-supplies-requires c κs = counted c .room .kinds
-
-reserves-requires : tie.Need-reserves-requires
-reserves-requires c κs = counted (c .before) .room .kinds
-
 kinds-good-requires : tie.Need-kinds-good-requires
 kinds-good-requires c κs = counted (c .before .before) .room .kinds
 
@@ -130,8 +124,8 @@ read-spec =
     (λ c. search needs)
     (λ c κs. search needs)
     (λ c. search needs)
-    supplies-requires
-    reserves-requires
+    (λ c κs. search needs)
+    (λ c κs. search needs)
     (λ c. search needs)
     (λ c. search needs)
     kinds-good-requires

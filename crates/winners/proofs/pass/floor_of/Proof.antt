@@ -1,24 +1,28 @@
--- `pass::floor_of` meets its contract. The loop keeps the floor by the clients left out so far. Assumes nothing.
+-- `pass::floor_of` meets its contract. The loop keeps the floor by the clients left out so far, and how many they are. Assumes nothing.
 use borrow.Author.Needs.{needs}
 use mathlib.Core.Path.{_≡_, ap, _∙_}
 use mathlib.Core.List.{[]}
-use Prim.Native.Nat.{ℕ, _-_, _^_, _≤_, _<_}
+use Prim.Native.Nat.{ℕ, _+_, _-_, _^_, _<_}
+use native.Mathlib.Nat.{zero-add}
 use native.Mathlib.Omega.{arith}
-use Rattle.winners.specs.ClientSets.{Within}
+use lib.ListN.{length}
+use Rattle.sets.specs.Sets.{has}
+use Rattle.winners.specs.ClientSets.{clients-in, Within}
 use Rattle.winners.specs.Passes.{Floor-past}
-use Rattle.winners.proofs.ClientSets.{others-less}
+use Rattle.winners.proofs.ClientSets.{clients-none, clients-few, clients-one, others-less}
 use Rattle.winners.proofs.PassSteps.{floor-none, floor-next, bit-is, bit-few, rest-within}
 use Rattle.winners.proofs.pass.floor_of.Statement.{statement}
 use Rattle.winners.proofs.pass.floor_of.Tie as tie
 
 abbrev Inv-loop : tie.InvT-loop
-Inv-loop set values floor₀ left₀ floor left = (left < 64) × Within left set × Floor-past left set values floor
+Inv-loop set values value₀ clients₀ left₀ value clients left =
+    (left < 64) × Within left set × Floor-past left set values value × (clients + length (clients-in left) ≡ length (clients-in set))
 
 abbrev μ-loop : tie.MeasureT-loop
-μ-loop set values floor₀ left₀ floor left = left
+μ-loop set values value₀ clients₀ left₀ value clients left = left
 
 loop-holds : tie.Need-loop-holds Inv-loop μ-loop
-loop-holds c = (c .pre, (λ j h. h), floor-none _ _)
+loop-holds c = (c .pre, (λ j h. h), floor-none _ _, zero-add _)
 
 -- the clients still to be left out, and the first of them
 module _ (c : tie.After-others Inv-loop μ-loop) where
@@ -42,6 +46,11 @@ mul-larger c = omega (arith, turn c .before .pre)
 element-copy-out-larger : tie.Need-element-copy-out-larger Inv-loop μ-loop
 element-copy-out-larger c = omega (arith, turn c .before .pre)
 
+add-clients : tie.Need-add-clients Inv-loop μ-loop
+add-clients c =
+    let t = turn (c .before .before) in
+    omega (arith, t .loop .inv .3, clients-few (λ x. has (t .before .args .set) (x - 1)) 6 1)
+
 loop-less : tie.Need-loop-less Inv-loop μ-loop
 loop-less c = let found = c .before .before in rw (found .others .ensures) (others-less _ _ (found .before .first .ensures))
 
@@ -55,13 +64,14 @@ loop-again c =
       omega (arith, l .inv .0),
       rest-within _ _ _ [] 0 0 first (l .inv .1),
       floor-next _ _ _ _ _ _ first (l .inv .1) (rw (bit found) at (c .larger .ensures)) (l .inv .2),
+      omega (arith, l .inv .3, clients-one _ _ first),
     )
 
 returns : tie.Need-returns Inv-loop μ-loop
 returns c =
     let l = c .before .loop in
     let z : l .left ≡ 0 = omega (arith, c .loop-test .left) in
-    rw z at (l .inv .2)
+    (rw z at (l .inv .2), omega (arith, rw z at (l .inv .3), ap length clients-none))
 
 pub floor-of-spec : {M : Type 1} → statement M
 floor-of-spec =
@@ -77,6 +87,7 @@ floor-of-spec =
     mul-larger
     element-copy-out-larger
     (λ c κs. search needs)
+    add-clients
     loop-less
     loop-again
     returns)

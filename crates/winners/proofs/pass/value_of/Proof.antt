@@ -20,7 +20,7 @@ returns c =
     let set : eqb (bitAnd (c .before .before .before .args .used) 72058693566333184) 0 ≡ false
     = ne-eqb (bitAnd (c .before .before .before .args .used) 72058693566333184) 0 (λ e. omega (arith, c .if1 .taken, guards, e)) in
     record {
-      is = λ m wt k supply least laid room known. value-floor _ _ _ _ m wt k supply least laid room known _ (floor .ensures) set;
+      is = λ m wt k supply least laid room known. value-floor _ _ _ _ m wt k supply least laid room known _ (floor .ensures .0) set;
     }
 
 -- the guards are clear
@@ -30,22 +30,18 @@ clear c = eq-eqb (bitAnd (c .before .before .before .args .used) 720586935663331
 
 search-full-requires : tie.Need-search-full-requires
 search-full-requires c κs =
-    let tested = c .before in
-    let w = tested .before .before .before .pre in
+    let w = c .before .before .before .pre in
     let s = w .sale in
     value-searchable _ _ _ _ (s .m) (s .wt) (s .k) (s .supply) (s .least) (s .laid) (w .room) (w .known)
-    _ (tested .before .before .floor-of .ensures) (clear tested) _ (c .size .ensures) (w .some) (w .few)
-
-size-requires : tie.Need-size-requires
-size-requires c κs = c .before .before .before .pre .few
+    _ (c .before .before .floor-of .ensures .0) (clear c) _ (c .before .before .floor-of .ensures .1) (w .some) (w .few)
 
 returns-2 : tie.Need-returns-2
 returns-2 c =
-    let tested = c .before .before in
+    let tested = c .before in
     let floor = tested .before .before .floor-of in
     record {
       is = λ m wt k supply least laid room known.
-          value-searched _ _ _ _ m wt k supply least laid room known _ (floor .ensures) (clear tested) _ (c .search-full .ensures);
+          value-searched _ _ _ _ m wt k supply least laid room known _ (floor .ensures .0) (clear tested) _ (c .search-full .ensures);
     }
 
 pub value-of-spec : {M : Type 1} → statement M
@@ -55,6 +51,5 @@ value-of-spec =
     floor-of-requires
     (λ c κs. search needs)
     returns
-    size-requires
     search-full-requires
     returns-2)
