@@ -7,7 +7,7 @@ use lib.ListN.{replicate}
 use Rattle.sets.specs.Tables.{tabulate}
 use Rattle.book.specs.Bytes.{field, bytes-at}
 use Rattle.book.specs.Lists.{within, all, count, row, all-to, total}
-use Rattle.book.specs.Book.{Book, clients, no-bid, reserves-of}
+use Rattle.book.specs.Book.{clients, no-bid, reserves-of}
 use Rattle.book.specs.Layout.{book-long, K-of, n-of, m-of, statuses-from, bids-from, kind-here, kinds-in, bid-here, bids-in, book-in}
 use Rattle.book.specs.Questions.{version-good, book-formula, counts-ranged, counts-good, kind-good, status-good, tables-good}
 use Rattle.book.specs.Questions.{bid-good, bids-of, few-bids, bids-good, reserves-met, amounts-good, entries-refusal, book-refusal}

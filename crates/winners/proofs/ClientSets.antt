@@ -1,11 +1,10 @@
 -- Sets of clients as numbers: the first client and the others, the set without one of its clients, and clients that add nothing left out.
 -- Cited by the proofs of src/client_sets.rt, src/full.rt and src/pass.rt. Assumes nothing.
 use mathlib.Core.Path.{_≡_, refl, sym, ap, ap₂, fun-ext, _∙_}
-use mathlib.Core.Bool.{Bool, true, false, _&&_, cond, false≢true, and-eq-true-iff}
+use mathlib.Core.Bool.{Bool, true, false, _&&_, false≢true, and-eq-true-iff}
 use mathlib.Core.List.{List, [], _∷_}
 use mathlib.Core.Logic.{_≢_, ⊎-elim}
-use Prim.Native.Nat.{ℕ, zero, suc, _+_, _-_, _*_, _/_, _%_, _^_, _≤_, _<_, min}
-use native.Mathlib.Numerals.{add-one}
+use Prim.Native.Nat.{ℕ, zero, suc, _+_, _-_, _/_, _%_, _^_, _≤_, _<_, min}
 use native.Mathlib.Nat.{pow-suc, le-of-suc-le-suc}
 use native.Mathlib.Decide.{ℕ-discrete, decLt}
 use native.Mathlib.Omega.{arith}
@@ -21,7 +20,7 @@ use Rattle.market.specs.Market.{Market, at}
 use Rattle.market.specs.Greatest.{choose}
 use Rattle.market.specs.Members.{reach, members, without, Row-of, choose-in}
 use Rattle.market.proofs.Bools.{either}
-use Rattle.market.proofs.Members.{members-same, members-at, members-without, members-first, Drops}
+use Rattle.market.proofs.Members.{members-at, members-without, members-first, Drops}
 use Rattle.market.proofs.ReachKept.{reach-kept}
 use Rattle.market.proofs.RowOf.{row-chooses}
 use Rattle.winners.specs.ClientSets.{clients-in, First, Within}

@@ -8,7 +8,7 @@ use native.Mathlib.Omega.{arith}
 use borrow.Author.Tests.{ltb-false}
 use lib.Dec.{ltb}
 use lib.ListN.{length, getD}
-use Rattle.sets.specs.Sets.{has, set-of}
+use Rattle.sets.specs.Sets.{set-of}
 use Rattle.sets.proofs.Members.{has-set-of}
 use Rattle.book.specs.Book.{Book, client-of}
 use Rattle.book.specs.Sound.{Sound}

@@ -25,8 +25,7 @@ use Rattle.market.proofs.Trimmed.{full-reaches}
 use Rattle.market.proofs.Split.{split-value, split-floor}
 use Rattle.winners.specs.ClientSets.{clients-in, First, Within}
 use Rattle.winners.specs.Full.{Tail, one, next, Ceilings, Searchable, Searched}
-use Rattle.winners.specs.Passes.{Floor-past, Laid-out, Idle-but, Values-to}
-use Rattle.winners.specs.Taken.{Room}
+use Rattle.winners.specs.Passes.{Floor-past, Idle-but, Values-to, Weighable}
 use Rattle.winners.proofs.ClientSets.{clients-none, clients-first, clients-without, clients-few, some-client, others-less}
 use Rattle.winners.proofs.ClientSets.{fewer-within, gone-alone, has-there, reach-held, reach-fewer}
 use Rattle.winners.proofs.Taking.{more-fits}
@@ -125,23 +124,33 @@ value-left m wt supply held set some values idle known e l =
     known .below some l ∙ ap (λ (s : ℕ). reach m wt (clients-in s) supply) e ∙ sym (reach-held m wt held idle set supply)
 
 -- THE VALUE OF A SET
-module _ (set used : ℕ) (rows values : List ℕ) (m : Market) (wt : ℕ → ℕ) (k : ℕ) (supply : List ℕ) (least : ℕ → List ℕ)
-    (laid : Laid-out m wt k least rows) (room : Room k supply (leasts least (clients-in set)) used)
-    (known : Values-to m wt supply set values) where
+module _ (set used : ℕ) (rows values : List ℕ) (w : Weighable set used rows values) where
+  abbrev m : Market
+  m = w .sale .m
+
+  abbrev wt : ℕ → ℕ
+  wt = w .sale .wt
+
+  abbrev supply : List ℕ
+  supply = w .sale .supply
+
+  abbrev least : ℕ → List ℕ
+  least = w .sale .least
+
   abbrev taken : List ℕ
   taken = leasts least (clients-in set)
 
   -- known values of the clients left are ceilings
   ceilings : fits taken supply ≡ true → Ceilings (trimmed least m) wt values set (less supply taken)
   ceilings t r tail ys f =
-      rw (known .below r (tail-less tail))
-      (full-reaches m wt least (laid .low) (clients-in r) ys supply
+      rw (w .known .below r (tail-less tail))
+      (full-reaches m wt least (w .sale .laid .low) (clients-in r) ys supply
       (tail-room least tail ys supply (sym (more-fits ys taken supply t) ∙ f)))
 
   pub values-few : (r : ℕ) → getD values r 0 ≤ 54043195528445952
   values-few r = ⊎-elim
-      (λ (y : ltb r set ≡ true). rw (known .below r (ltb-true r set y)) (reach-few m wt (laid .weights-few) r supply))
-      (λ (z : ltb r set ≡ false). omega (arith, known .above r (ltb-false r set z)))
+      (λ (y : ltb r set ≡ true). rw (w .known .below r (ltb-true r set y)) (reach-few m wt (w .sale .laid .weights-few) r supply))
+      (λ (z : ltb r set ≡ false). omega (arith, w .known .above r (ltb-false r set z)))
       (either (ltb r set))
 
   module _ (floor : ℕ) (f : Floor-past 0 set values floor) where
@@ -152,7 +161,7 @@ module _ (set used : ℕ) (rows values : List ℕ) (m : Market) (wt : ℕ → �
         omega (
           arith,
           ap (λ (cs : List ℕ). reach m wt cs supply) e,
-          known .below (set - 2 ^ j) (omega (arith, pow-pos j)),
+          w .known .below (set - 2 ^ j) (omega (arith, pow-pos j)),
           f .covers j b h (has-zero j),
         )
 
@@ -160,38 +169,39 @@ module _ (set used : ℕ) (rows values : List ℕ) (m : Market) (wt : ℕ → �
     reached = ⊎-elim
         (λ (z : floor ≡ 0). omega arith)
         (λ (j, b, h, v). let there = has-there set j h in
-        omega (arith, v, known .below (set - 2 ^ j) (omega (arith, pow-pos j)), reach-fewer m wt set j supply h))
+        omega (arith, v, w .known .below (set - 2 ^ j) (omega (arith, pow-pos j)), reach-fewer m wt set j supply h))
         (f .there)
 
     -- where the least hours do not fit, the floor
     pub value-floor : eqb (bitAnd used 72058693566333184) 0 ≡ false → floor ≡ reach m wt (clients-in set) supply
-    value-floor n = sym (split-floor m wt least (laid .low) (clients-in set) supply floor covers reached (sym (room .clear) ∙ n))
+    value-floor n =
+        sym (split-floor m wt least (w .sale .laid .low) (clients-in set) supply floor covers reached (sym (w .room .clear) ∙ n))
 
     -- where they do, by the split
     module _ (y : eqb (bitAnd used 72058693566333184) 0 ≡ true) where
       pub value-searched : (v : ℕ) → Searched set used floor rows values v → v ≡ reach m wt (clients-in set) supply
       value-searched v s =
-          let t = sym (room .clear) ∙ y in
-          s .is (trimmed least m) wt k (less supply taken) (laid .trims) (room .left t) (ceilings t)
-          ∙ sym (split-value m wt least (laid .low) (clients-in set) supply floor covers reached t)
+          let t = sym (w .room .clear) ∙ y in
+          s .is (trimmed least m) wt (w .sale .k) (less supply taken) (w .sale .laid .trims) (w .room .left t) (ceilings t)
+          ∙ sym (split-value m wt least (w .sale .laid .low) (clients-in set) supply floor covers reached t)
 
-      pub value-searchable : (size : ℕ) → size ≡ length (clients-in set) → 1 ≤ set → set < 64 → Searchable size set used floor rows values
-      value-searchable size count some few =
-          let t = sym (room .clear) ∙ y in
+      pub value-searchable : (size : ℕ) → size ≡ length (clients-in set) → Searchable size set used floor rows values
+      value-searchable size count =
+          let t = sym (w .room .clear) ∙ y in
           record {
             m = trimmed least m;
             wt = wt;
-            k = k;
+            k = w .sale .k;
             hours = less supply taken;
-            held = laid .trims;
-            left = room .left t;
+            held = w .sale .laid .trims;
+            left = w .room .left t;
             ceilings = ceilings t;
-            weights-few = laid .weights-few;
+            weights-few = w .sale .laid .weights-few;
             clients-left = count;
-            some-left = omega (arith, some-client set some few);
-            set-few = few;
+            some-left = omega (arith, some-client set (w .some) (w .few));
+            set-few = w .few;
             values-few = values-few;
-            floor-few = omega (arith, reached, reach-few m wt (laid .weights-few) set supply);
+            floor-few = omega (arith, reached, reach-few m wt (w .sale .laid .weights-few) set supply);
           }
 
 -- SET AFTER SET

@@ -1,11 +1,11 @@
 -- The rows settled one after another: those settled keep what they hold, and those ahead are as they were. Cited by the proof of
 -- src/trims.rt's `settle_all`. Assumes nothing.
-use mathlib.Core.Path.{_≡_, _∙_}
+use mathlib.Core.Path.{_≡_}
 use mathlib.Core.List.{List}
 use Prim.Native.Nat.{ℕ, _+_, _≤_}
 use native.Mathlib.Decide.{ℕ-discrete}
 use native.Mathlib.Omega.{arith}
-use lib.ListN.{length, set, length-set}
+use lib.ListN.{length, set}
 use lib.Seq.{getD-set-same, getD-set-other}
 use Rattle.market.specs.Market.{Market}
 use Rattle.winners.specs.Rows.{Row-held}
@@ -56,5 +56,6 @@ module _ (t least : ℕ) (xs ys leasts : List ℕ) (u : t ≤ 6) (long : length 
     settled-next done j a l = elim (ℕ-discrete j t) [
       | yes q ↦ let (row, held) = ahead t (omega arith) u in
           rw (q, getD-set-same leasts t least 0 (omega arith)) (s .trims m wt k n row few held)
-      | no q ↦ rw (getD-set-other leasts t j least 0 q) (trimmed-same _ _ _ _ j xs ys _ (s .others j (omega arith) q) (done j a (omega arith)))
+      | no q ↦ rw (getD-set-other leasts t j least 0 q)
+          (trimmed-same _ _ _ _ j xs ys _ (s .others j (omega arith) q) (done j a (omega arith)))
     ]

@@ -1,21 +1,18 @@
 -- The value of a set of clients is the greatest value of the book without all others. Cited by the proofs of src/value.rt,
 -- src/table.rt and src/weighing.rt. Assumes nothing.
-use mathlib.Core.Path.{_≡_, refl, sym, ap, _∙_}
-use mathlib.Core.Bool.{Bool, true, false, _&&_, not, and-comm, and-true, and-false, false≢true}
+use mathlib.Core.Path.{_≡_, sym, ap, _∙_}
+use mathlib.Core.Bool.{Bool, true, false, _&&_, not, and-comm, and-true, and-false}
 use mathlib.Core.List.{List}
 use mathlib.Core.Logic.{⊎-elim}
-use Prim.Native.Nat.{ℕ, zero, suc, _+_, _-_, _≤_, _<_}
-use native.Mathlib.Decide.{decLt}
+use Prim.Native.Nat.{ℕ, suc, _+_, _-_, _≤_, _<_}
 use native.Mathlib.Omega.{arith}
-use lib.Dec.{eqb}
-use lib.ListN.{length, getD, List·getD-eq-default}
+use lib.ListN.{getD}
 use Rattle.sets.specs.Sets.{has}
 use Rattle.book.specs.Book.{Book, bid-at, client-of, clients, standing, supplies}
 use Rattle.book.specs.Sound.{Sound}
 use Rattle.book.proofs.Soundness.{sound-shaped}
 use Rattle.market.specs.Market.{Market, fits}
 use Rattle.market.specs.Greatest.{best}
-use Rattle.market.specs.Members.{reach}
 use Rattle.market.specs.Restrict.{only, fitted}
 use Rattle.market.proofs.Bools.{either}
 use Rattle.market.proofs.Prune.{best-idle}

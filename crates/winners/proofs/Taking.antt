@@ -120,5 +120,6 @@ module _ (k : ℕ) (supply : List ℕ) (least : ℕ → List ℕ) (held : ℕ) w
       ]
 
   -- a set of which some client has no bid is passed over
-  pub taken-passed : (s : ℕ) (xs : List ℕ) → (Within s held → ⊥) → Taken-to k supply least held s xs → Taken-to k supply least held (s + 1) xs
+  pub taken-passed : (s : ℕ) (xs : List ℕ) → (Within s held → ⊥) → Taken-to k supply least held s xs
+      → Taken-to k supply least held (s + 1) xs
   taken-passed s xs n t j b v = elim (ℕ-discrete j s) [ yes q ↦ absurd (n (rw q at v)) | no q ↦ t j (omega arith) v ]

@@ -1,4 +1,4 @@
--- Least hours found and taken off, bid by bid, and the row that is then at a slot. Cited by the proofs of src/trims.rt. Assumes nothing.
+-- Least hours found and taken off, bid by bid, and the row that is then there. Cited by the proofs of src/trims.rt. Assumes nothing.
 use mathlib.Core.Path.{_≡_, refl, sym, ap, _∙_}
 use mathlib.Core.Bool.{cond}
 use mathlib.Core.List.{List, [], _∷_}
@@ -14,7 +14,6 @@ use Rattle.market.specs.Market.{at, less}
 use Rattle.market.proofs.Adding.{fits-trans}
 use Rattle.market.proofs.RowOf.{row-trimmed}
 use Rattle.winners.specs.Lanes.{packed, Asked, Smaller-lanes}
-use Rattle.winners.specs.Rows.{Row-held}
 use Rattle.winners.specs.Trims.{Some-row, Least-to, Taken-off, Settled}
 use Rattle.winners.proofs.LaneSums.{packed-most}
 use Rattle.winners.proofs.LanesLeast.{asked-less, smaller-first, smaller-second}

@@ -53,11 +53,10 @@ pub record Weighable (set used : ℕ) (rows values : List ℕ) : Type 0 where
   pub some : 1 ≤ set
   pub few : set < 64
 
--- the value of the set
-pub record Set-weighed (set used : ℕ) (rows values : List ℕ) (value : ℕ) : Type 0 where
-  pub is : (m : Market) (wt : ℕ → ℕ) (k : ℕ) (supply : List ℕ) (least : ℕ → List ℕ) → Laid-out m wt k least rows
-      → Room k supply (leasts least (clients-in set)) used → Values-to m wt supply set values
-      → value ≡ reach m wt (clients-in set) supply
+-- the value of the set, in whatever market that is
+abbrev pub Set-weighed : (set used : ℕ) (rows values : List ℕ) (value : ℕ) → Type 0
+Set-weighed set used rows values value =
+    (w : Weighable set used rows values) → value ≡ reach (w .sale .m) (w .sale .wt) (clients-in set) (w .sale .supply)
 
 -- who has a bid, what is used of the supply where nothing is taken, and least hours by client
 pub record Passable (held used : ℕ) (rows numbers : List ℕ) : Type 0 where
@@ -66,7 +65,7 @@ pub record Passable (held used : ℕ) (rows numbers : List ℕ) : Type 0 where
   pub left : Left (sale .k) (sale .supply) used
   pub leasts : Leasts-held (sale .k) (sale .least) numbers
 
--- the values of all sets
-pub record Sets-weighed (held used : ℕ) (rows numbers values : List ℕ) : Type 0 where
-  pub is : (m : Market) (wt : ℕ → ℕ) (k : ℕ) (supply : List ℕ) (least : ℕ → List ℕ) → Laid-out m wt k least rows → Idle-but m held
-      → Left k supply used → Leasts-held k least numbers → Values-to m wt supply 64 values
+-- the values of all sets, in whatever market that is
+abbrev pub Sets-weighed : (held used : ℕ) (rows numbers values : List ℕ) → Type 0
+Sets-weighed held used rows numbers values =
+    (p : Passable held used rows numbers) → Values-to (p .sale .m) (p .sale .wt) (p .sale .supply) 64 values

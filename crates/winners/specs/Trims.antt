@@ -53,7 +53,8 @@ pub record Row-trimmed (m : Market) (wt : ℕ → ℕ) (k n t : ℕ) (rows : Lis
 pub record Settled (t : ℕ) (before after : List ℕ) (number : ℕ) : Type 0 where
   pub long : length after ≡ rows-end
   pub others : (s : ℕ) → s ≤ 6 → s ≢ t → Same-row s before after
-  pub trims : (m : Market) (wt : ℕ → ℕ) (k n : ℕ) (row : List ℕ) → k ≤ 4 → Row-held m wt k n t before row → Row-trimmed m wt k n t after number
+  pub trims : (m : Market) (wt : ℕ → ℕ) (k n : ℕ) (row : List ℕ) → k ≤ 4 → Row-held m wt k n t before row
+      → Row-trimmed m wt k n t after number
 
 -- the rows from that of client 1 up to that of client end - 1, with their least hours, which stand by client, taken off
 abbrev pub Trimmed-to : (m : Market) (wt : ℕ → ℕ) (k n end : ℕ) (rows leasts : List ℕ) → Type 0

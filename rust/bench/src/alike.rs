@@ -12,7 +12,8 @@ use generate::Rng;
 use reference::Book;
 
 /// All 64 greatest values in Rust.
-const IN_RUST: [fn(&book::Book) -> Surpluses; 3] = [search::surpluses, set_by_set::surpluses, copied::surpluses];
+const IN_RUST: [fn(&book::Book) -> Surpluses; 4] =
+    [search::surpluses::<false>, search::surpluses::<true>, set_by_set::surpluses, copied::surpluses];
 
 /// A few bytes changed, mostly by one, and now and then the end cut off.
 fn changed(rng: &mut Rng, input: &[u8]) -> Vec<u8> {

@@ -1,5 +1,4 @@
 -- `client_sets::first` meets its contract. The zeros below a set's lowest bit are as many as the clients before its first. Assumes nothing.
-use Prim.Native.Nat.{_+_}
 use mathlib.Core.Path.{refl}
 use native.Mathlib.Omega.{arith}
 use lib.Count.{trailing-le}

@@ -84,20 +84,28 @@ abbrev Turn : ℕ → Type 0
 Turn t = lts.In-loop (told t) (at-turn t) search-full.Post Inv-loop μ-loop
 
 module _ (t : ℕ) (c : Turn t) where
-  -- the client's client
-  abbrev client : First (c .before .before .before .before .before .before .before .args .set)
-      (c .before .before .before .before .before .first .result)
+  abbrev parted : lts.After-others (told t) (at-turn t) search-full.Post Inv-loop μ-loop
+  parted = c .before .before .before .before
+
+  abbrev start : lts.Start (told t) (at-turn t) search-full.Post Inv-loop μ-loop
+  start = parted .before .before .before
+
+  -- the first client, and the others
+  abbrev first : ℕ
+  first = parted .before .first .result
+
+  abbrev rest : ℕ
+  rest = parted .others .result
+
+  abbrev client : First (start .args .set) first
   client = c .before .loop .inv .0
 
-  -- more than one client is left
-  several : 2 ≤ c .before .before .before .before .before .before .before .args .ahead
-  several =
-      let able = c .before .before .before .before .before .before .before .pre .1 in
-      omega (arith, able .some-left, c .before .before .before .before .before .before .if1 .left)
+  able : let a = start .args in Searchable (a .ahead) (a .set) (a .used) (a .floor) (a .rows .now) (a .values .now)
+  able = start .pre .1
 
-  able : let a = c .before .before .before .before .before .before .before .args in
-      Searchable (a .ahead) (a .set) (a .used) (a .floor) (a .rows .now) (a .values .now)
-  able = c .before .before .before .before .before .before .before .pre .1
+  -- more than one client is left
+  several : 2 ≤ start .args .ahead
+  several = omega (arith, able .some-left, parted .before .before .if1 .left)
 
   abbrev d : ℕ
   d = c .before .loop .d
@@ -105,9 +113,8 @@ module _ (t : ℕ) (c : Turn t) where
   near : d < 8
   near = place-few _ _ _ _ _ _ client _ able d (c .loop-test .taken)
 
-  found : let a = c .before .before .before .before .before .before .before .args in
-      Found (a .set) (c .before .before .before .before .before .first .result) (a .used) (a .floor) (a .rows .now) (a .values .now) client
-      (c .before .loop .top) d
+  found : let a = start .args in
+      Found (a .set) first (a .used) (a .floor) (a .rows .now) (a .values .now) client (c .before .loop .top) d
   found = c .before .loop .inv .1
 
 add-if2 : (t : ℕ) → lts.Need-add-if2 (told t) (at-turn t) search-full.Post Inv-loop μ-loop
@@ -116,14 +123,14 @@ add-if2 t c =
     omega (
       arith,
       weight-few _ _ _ _ _ _ (client t turn) _ (able t turn) (d t turn) (turn .loop-test .taken),
-      able t turn .values-few (turn .before .before .before .before .others .result),
+      able t turn .values-few (rest t turn),
     )
 
 returns-2 : (t : ℕ) → lts.Need-returns-2 (told t) (at-turn t) search-full.Post Inv-loop μ-loop
 returns-2 t c =
     let turn = c .before .before in
-    let rest = turn .before .before .before .before .others .ensures in
-    found-falls _ _ _ _ _ _ (client t turn) _ (d t turn) (turn .loop-test .taken) (found t turn) (rw rest at (c .if2 .taken))
+    found-falls _ _ _ _ _ _ (client t turn) _ (d t turn) (turn .loop-test .taken) (found t turn)
+    (rw (parted t turn .others .ensures) at (c .if2 .taken))
 
 add-after-3 : (t : ℕ) → lts.Need-add-after-3 (told t) (at-turn t) search-full.Post Inv-loop μ-loop
 add-after-3 t c =
@@ -135,8 +142,7 @@ module _ (t : ℕ) (c : lts.After-guards-set (told t) (at-turn t) search-full.Po
   abbrev after : ℕ
   after =
       let turn = c .before .before .before .before in
-      let a = turn .before .before .before .before .before .before .before .args in
-      a .used + getD (a .rows .now) (16 * turn .before .before .before .before .before .first .result + 2 * d t turn + 1) 0
+      start t turn .args .used + getD (start t turn .args .rows .now) (16 * first t turn + 2 * d t turn + 1) 0
 
   clear : c .guards-set .result ≡ 0 → eqb (bitAnd after 72058693566333184) 0 ≡ true
   clear z = eq-eqb _ 0 (sym (c .guards-set .ensures .0) ∙ z)
@@ -152,61 +158,49 @@ module _ (t : ℕ) (c : lts.After-excess (told t) (at-turn t) search-full.Post I
   abbrev turn : Turn t
   turn = tested .before .before .before .before
 
-  abbrev start : lts.Start (told t) (at-turn t) search-full.Post Inv-loop μ-loop
-  start = turn .before .before .before .before .before .before .before
-
-  abbrev first : ℕ
-  first = turn .before .before .before .before .before .first .result
-
-  abbrev rest : ℕ
-  rest = turn .before .before .before .before .others .result
+  abbrev begun : lts.Start (told t) (at-turn t) search-full.Post Inv-loop μ-loop
+  begun = start t turn
 
   -- the search of the others
-  abbrev Rest-searched : (set more : ℕ) → Type 0
-  Rest-searched set more = Searched set (after t tested) (c .excess .result) (start .args .rows .now) (start .args .values .now) more
+  abbrev Rest-searchable : (ahead set : ℕ) → Type 0
+  Rest-searchable ahead set = Searchable ahead set (after t tested) (c .excess .result) (begun .args .rows .now) (begun .args .values .now)
 
-  later : Searchable (start .args .ahead - 1) rest (after t tested) (c .excess .result) (start .args .rows .now) (start .args .values .now)
+  abbrev Rest-searched : (set more : ℕ) → Type 0
+  Rest-searched set more = Searched set (after t tested) (c .excess .result) (begun .args .rows .now) (begun .args .values .now) more
+
+  later : Rest-searchable (begun .args .ahead - 1) (rest t turn)
   later =
       let top = top-few _ _ _ _ _ _ (client t turn) _ (able t turn) _ _ (found t turn) in
-      subst
-      (λ (x : ℕ).
-      Searchable (start .args .ahead - 1) x (after t tested) (c .excess .result) (start .args .rows .now) (start .args .values .now))
-      (sym (turn .before .before .before .before .others .ensures))
+      subst (λ (x : ℕ). Rest-searchable (begun .args .ahead - 1) x) (sym (parted t turn .others .ensures))
       (searchable-next _ _ _ _ _ _ (client t turn) _ (able t turn) (d t turn) (turn .loop-test .taken) _
       (omega (arith, several t turn)) (omega (arith, c .excess .ensures, top)) (clear t tested (c .before .if3 .taken)))
 
   -- a bid taken, with what the others add to it
-  taken : (more : ℕ) → Rest-searched rest more
-      → Found (start .args .set) first (start .args .used) (start .args .floor) (start .args .rows .now) (start .args .values .now)
-      (client t turn) (getD (start .args .rows .now) (16 * first + 2 * d t turn) 0 + more) (d t turn + 1)
+  taken : (more : ℕ) → Rest-searched (rest t turn) more
+      → Found (begun .args .set) (first t turn) (begun .args .used) (begun .args .floor) (begun .args .rows .now) (begun .args .values .now)
+      (client t turn) (getD (begun .args .rows .now) (16 * first t turn + 2 * d t turn) 0 + more) (d t turn + 1)
   taken more s =
       found-taken _ _ _ _ _ _ (client t turn) _ (d t turn) (turn .loop-test .taken) (c .excess .result) more _
       (found t turn) (clear t tested (c .before .if3 .taken)) (c .excess .ensures)
-      (subst (λ (x : ℕ). Rest-searched x more) (turn .before .before .before .before .others .ensures) s) refl
+      (subst (λ (x : ℕ). Rest-searched x more) (parted t turn .others .ensures) s) refl
 
 last-bid-requires-2 : (t : ℕ) → lts.Need-last-bid-requires-2 (told t) (at-turn t) search-full.Post Inv-loop μ-loop
 last-bid-requires-2 t c κs =
     let found = c .before in
-    let a = start t found .args in
-    let one : a .ahead - 1 ≡ 1 = omega (arith, c .if4 .taken) in (
-      a .values .now,
-      subst
-          (λ (x : ℕ). Searchable x (rest t found) (after t (tested t found)) (found .excess .result) (a .rows .now) (a .values .now)) one
-          (later t found),
-    )
+    let one : begun t found .args .ahead - 1 ≡ 1 = omega (arith, c .if4 .taken) in
+    (begun t found .args .values .now, subst (λ (x : ℕ). Rest-searchable t found x (rest t (turn t found))) one (later t found))
 
 search-full-requires : (t : ℕ) → lts.Need-search-full-requires (told t) (at-turn t) search-full.Post Inv-loop μ-loop
 search-full-requires t c κs =
     let found = c .before in
-    (omega (arith, start t found .pre .0, several t (turn t found)), later t found)
+    (omega (arith, start t (turn t found) .pre .0, several t (turn t found)), later t found)
 
 -- what the others add, whoever finds it
 others-add : (t : ℕ) (c : lts.Joined4 (told t) (at-turn t) search-full.Post Inv-loop μ-loop)
-    → Rest-searched t (c .before) (rest t (c .before)) (c .if4 .more)
-others-add t c = ⊎-elim
-    (λ (if4, bid, e). subst (λ (x : ℕ). Rest-searched t (c .before) (rest t (c .before)) x) (sym e) (bid .ensures _))
-    (λ (if4, more, e). subst (λ (x : ℕ). Rest-searched t (c .before) (rest t (c .before)) x) (sym e) (more .ensures))
-    (c .if4 .came)
+    → Rest-searched t (c .before) (rest t (turn t (c .before))) (c .if4 .more)
+others-add t c =
+    let Is = Rest-searched t (c .before) (rest t (turn t (c .before))) in
+    ⊎-elim (λ (if4, bid, e). subst Is (sym e) (bid .ensures _)) (λ (if4, more, e). subst Is (sym e) (more .ensures)) (c .if4 .came)
 
 add-top : (t : ℕ) → lts.Need-add-top (told t) (at-turn t) search-full.Post Inv-loop μ-loop
 add-top t c =

@@ -5,14 +5,13 @@ use borrow.Author.Tests.{eq-eqb, ne-eqb}
 use mathlib.Core.Path.{_≡_, sym, _∙_}
 use mathlib.Core.Bool.{true, false}
 use mathlib.Core.List.{List}
-use Prim.Native.Nat.{ℕ, _+_, _*_, _-_, _≤_, _<_}
+use Prim.Native.Nat.{ℕ, _+_, _*_, _-_, _<_}
 use native.Mathlib.Omega.{arith}
 use lib.Bits.{bitAnd}
 use lib.Dec.{eqb}
 use lib.ListN.{getD}
 use Rattle.winners.specs.ClientSets.{First}
-use Rattle.winners.specs.Full.{Searchable}
-use Rattle.winners.proofs.Searching.{Found, somebody, found-first, found-left, found-end, last-falls, last-fits, place-few, hours-few}
+use Rattle.winners.proofs.Searching.{Found, somebody, found-first, found-left, found-end, last-falls, last-fits, hours-few}
 use Rattle.winners.proofs.full.last_bid.Statement.{statement}
 use Rattle.winners.proofs.full.last_bid.Tie as tie
 
@@ -64,7 +63,9 @@ module _ (c : tie.After-guards-set Inv-loop μ-loop) where
   turn = c .before .before .before .before
 
   abbrev after : ℕ
-  after = start turn .args .used + getD (start turn .args .rows .now) (16 * turn .before .before .before .before .first .result + 2 * d turn + 1) 0
+  after =
+      let client = turn .before .before .before .before .first .result in
+      start turn .args .used + getD (start turn .args .rows .now) (16 * client + 2 * d turn + 1) 0
 
   clear : c .guards-set .result ≡ 0 → eqb (bitAnd after 72058693566333184) 0 ≡ true
   clear z = eq-eqb _ 0 (sym (c .guards-set .ensures .0) ∙ z)

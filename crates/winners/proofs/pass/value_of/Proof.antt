@@ -19,9 +19,7 @@ returns c =
     let guards = c .before .guards-set .ensures .0 in
     let set : eqb (bitAnd (c .before .before .before .args .used) 72058693566333184) 0 ≡ false
     = ne-eqb (bitAnd (c .before .before .before .args .used) 72058693566333184) 0 (λ e. omega (arith, c .if1 .taken, guards, e)) in
-    record {
-      is = λ m wt k supply least laid room known. value-floor _ _ _ _ m wt k supply least laid room known _ (floor .ensures .0) set;
-    }
+    λ w. value-floor _ _ _ _ w _ (floor .ensures .0) set
 
 -- the guards are clear
 clear : (c : tie.Else1) → eqb (bitAnd (c .before .before .before .args .used) 72058693566333184) 0 ≡ true
@@ -30,19 +28,14 @@ clear c = eq-eqb (bitAnd (c .before .before .before .args .used) 720586935663331
 
 search-full-requires : tie.Need-search-full-requires
 search-full-requires c κs =
-    let w = c .before .before .before .pre in
-    let s = w .sale in
-    value-searchable _ _ _ _ (s .m) (s .wt) (s .k) (s .supply) (s .least) (s .laid) (w .room) (w .known)
-    _ (c .before .before .floor-of .ensures .0) (clear c) _ (c .before .before .floor-of .ensures .1) (w .some) (w .few)
+    let floor = c .before .before .floor-of .ensures in
+    value-searchable _ _ _ _ (c .before .before .before .pre) _ (floor .0) (clear c) _ (floor .1)
 
 returns-2 : tie.Need-returns-2
 returns-2 c =
     let tested = c .before in
     let floor = tested .before .before .floor-of in
-    record {
-      is = λ m wt k supply least laid room known.
-          value-searched _ _ _ _ m wt k supply least laid room known _ (floor .ensures .0) (clear tested) _ (c .search-full .ensures);
-    }
+    λ w. value-searched _ _ _ _ w _ (floor .ensures .0) (clear tested) _ (c .search-full .ensures)
 
 pub value-of-spec : {M : Type 1} → statement M
 value-of-spec =

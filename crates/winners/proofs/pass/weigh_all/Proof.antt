@@ -10,8 +10,7 @@ use Rattle.book.specs.Value.{book-of}
 use Rattle.book.proofs.Held.{sound-held}
 use Rattle.winners.specs.Combinations.{amount-of}
 use Rattle.winners.specs.Lanes.{Left}
-use Rattle.winners.specs.Passes.{Laid-out, Idle-but}
-use Rattle.winners.specs.Taken.{Leasts-held}
+use Rattle.winners.specs.Passes.{Passable}
 use Rattle.winners.specs.Rows.{searched}
 use Rattle.winners.specs.Trims.{Trimmed-to}
 use Rattle.winners.proofs.HeldBids.{supply-left}
@@ -78,42 +77,31 @@ module _ (c : tie.After-held-in) where
   abbrev least : ℕ → List ℕ
   least = least-of b sound (start .args .discard) rows numbers trims
 
-  laid : Laid-out (searched b (start .args .discard)) (amount-of b) (length (b .kinds)) least rows
-  laid = laid-out b sound (start .args .discard) rows numbers trims
-
-  idle : Idle-but (searched b (start .args .discard)) (c .held-in .result)
-  idle = idle-but b sound (start .args .discard) rows numbers trims _ (c .held-in .ensures)
-
-  leasts-are : Leasts-held (length (b .kinds)) least numbers
-  leasts-are = leasts-laid b sound (start .args .discard) rows numbers trims
-
-  left : Left (length (b .kinds)) (supplies b) (filled .before .before .used .result)
-  left = supplied (filled .before .before)
+  passable : Passable (c .held-in .result) (filled .before .before .used .result) rows numbers
+  passable = record {
+    sale = record {
+      m = searched b (start .args .discard);
+      wt = amount-of b;
+      k = length (b .kinds);
+      supply = supplies b;
+      least = least;
+      laid = laid-out b sound (start .args .discard) rows numbers trims;
+    };
+    idle = idle-but b sound (start .args .discard) rows numbers trims _ (c .held-in .ensures);
+    left = supplied (filled .before .before);
+    leasts = leasts-laid b sound (start .args .discard) rows numbers trims;
+  }
 
 returns : tie.Need-returns
-returns c = values-none _ _ _ _ (c .if1 .taken) (idle (c .before))
+unfolding passable
+returns c = values-none _ _ _ _ (c .if1 .taken) (passable (c .before) .idle)
 
 weigh-sets-requires : tie.Need-weigh-sets-requires
-weigh-sets-requires c κs =
-    let held = c .before .before .before in
-    record {
-      sale = record {
-        m = searched (b held) (start held .args .discard);
-        wt = amount-of (b held);
-        k = length (b held .kinds);
-        supply = supplies (b held);
-        least = least held;
-        laid = laid held;
-      };
-      idle = idle held;
-      left = left held;
-      leasts = leasts-are held;
-    }
+weigh-sets-requires c κs = passable (c .before .before .before)
 
 returns-2 : tie.Need-returns-2
-returns-2 c =
-    let held = c .before .before .before .before in
-    c .weigh-sets .ensures .is _ _ _ _ _ (laid held) (idle held) (left held) (leasts-are held)
+unfolding passable
+returns-2 c = c .weigh-sets .ensures (passable (c .before .before .before .before))
 
 pub weigh-all-spec : {M : Type 1} → statement M
 weigh-all-spec =

@@ -15,7 +15,8 @@ use Rattle.winners.proofs.trims.settle_all.Tie as tie
 abbrev Inv-loop : tie.InvT-loop
 Inv-loop rows₀ leasts₀ c₀ rows leasts c =
     (1 ≤ c) × (c ≤ 7) × (length rows ≡ 119) × (length leasts ≡ 7) × ((j : ℕ) → c ≤ j → j ≤ 6 → Some-row j rows)
-    × ((m : Market) (wt : ℕ → ℕ) (k n : ℕ) → k ≤ 4 → Rows-held m wt k n rows₀ → Rows-from m wt k n c rows × Trimmed-to m wt k n c rows leasts)
+    × ((m : Market) (wt : ℕ → ℕ) (k n : ℕ) → k ≤ 4 → Rows-held m wt k n rows₀
+    → Rows-from m wt k n c rows × Trimmed-to m wt k n c rows leasts)
 
 abbrev μ-loop : tie.MeasureT-loop
 μ-loop rows₀ leasts₀ c₀ rows leasts c = 7 - c
