@@ -3,7 +3,9 @@
 // that they can add. The hours of a bid and the hours used are numbers in lanes.
 use crate::client_sets;
 use crate::lanes;
+use crate::places::BID;
 use crate::places::COUNTS;
+use crate::places::HOURS;
 use crate::places::ROW;
 use crate::places::ROW_BIDS;
 use crate::places::ROWS_END;
@@ -25,11 +27,11 @@ fn last_bid(set: usize, used: u64, floor: u64, rows: &[u64; ROWS_END]) -> u64
         if count <= d {
             return floor;
         }
-        let weight = rows[ROW * client + 2 * d];
+        let weight = rows[ROW * client + BID * d];
         if weight <= floor {
             return floor;
         }
-        let taken = used + rows[ROW * client + 2 * d + 1];
+        let taken = used + rows[ROW * client + BID * d + HOURS];
         if lanes::guards_set(taken) == 0 {
             return weight;
         }
@@ -61,11 +63,11 @@ pub(crate) fn search_full(
     let mut top = floor;
     let mut d: usize = 0;
     while d < count {
-        let weight = rows[ROW * client + 2 * d];
+        let weight = rows[ROW * client + BID * d];
         if weight + ceiling <= top {
             return top;
         }
-        let after = used + rows[ROW * client + 2 * d + 1];
+        let after = used + rows[ROW * client + BID * d + HOURS];
         if lanes::guards_set(after) == 0 {
             let base = numbers::excess(top, weight);
             let more = if ahead == 2 {

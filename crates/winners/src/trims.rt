@@ -1,7 +1,9 @@
 // Least hours: for each client the least hours of each kind among its bids are taken off its bids, so that they are asked for once,
 // whatever bids are taken.
 use crate::lanes;
+use crate::places::BID;
 use crate::places::COUNTS;
+use crate::places::HOURS;
 use crate::places::ROW;
 use crate::places::ROWS;
 use crate::places::ROWS_END;
@@ -18,10 +20,10 @@ fn least_of(client: usize, rows: &[u64; ROWS_END]) -> u64
     ensures { λ r. ⌜ Least-to client 8 (now (rows .entry)) r ⌝ }
 {
     let count = rows[COUNTS + client] as usize;
-    let mut least = numbers::share(0 < count, rows[ROW * client + 1]);
+    let mut least = numbers::share(0 < count, rows[ROW * client + HOURS]);
     let mut d: usize = 0;
     while d < count {
-        least = lanes::least(least, rows[ROW * client + 2 * d + 1]);
+        least = lanes::least(least, rows[ROW * client + BID * d + HOURS]);
         d += 1;
     }
     least
@@ -35,8 +37,8 @@ fn take_off(client: usize, least: u64, rows: &mut [u64; ROWS_END])
     let count = rows[COUNTS + client] as usize;
     let mut d: usize = 0;
     while d < count {
-        let hours = numbers::excess(rows[ROW * client + 2 * d + 1], least);
-        rows[ROW * client + 2 * d + 1] = hours;
+        let hours = numbers::excess(rows[ROW * client + BID * d + HOURS], least);
+        rows[ROW * client + BID * d + HOURS] = hours;
         d += 1;
     }
 }

@@ -9,6 +9,8 @@ use crate::surpluses::Surpluses;
 /// there are. Row 0 is nobody's.
 const ROW_BIDS: usize = 8;
 const ROW: usize = 16;
+const BID: usize = 2;
+const HOURS: usize = 1;
 const COUNTS: usize = 112;
 type Rows = [u64; 119];
 type Values = [u64; 64];
@@ -24,7 +26,7 @@ fn kept_in(book: &Book, discard: u8) -> u8 {
 fn place_for(client: usize, weight: u64, count: usize, rows: &Rows) -> usize {
     let mut d = count;
     while 0 < d {
-        if weight <= rows[ROW * client + 2 * (d - 1)] {
+        if weight <= rows[ROW * client + BID * (d - 1)] {
             return d;
         }
         d -= 1;
@@ -36,13 +38,13 @@ fn insert(client: usize, weight: u64, hours: u64, rows: &mut Rows) {
     let count = rows[COUNTS + client] as usize;
     let d = place_for(client, weight, count, rows);
     for e in (d + 1..=count).rev() {
-        let q = ROW * client + 2 * e;
-        rows[q] = rows[q - 2];
-        rows[q + 1] = rows[q - 1];
+        let q = ROW * client + BID * e;
+        rows[q] = rows[q - BID];
+        rows[q + HOURS] = rows[q - BID + HOURS];
     }
-    let q = ROW * client + 2 * d;
+    let q = ROW * client + BID * d;
     rows[q] = weight;
-    rows[q + 1] = hours;
+    rows[q + HOURS] = hours;
     rows[COUNTS + client] = count as u64 + 1;
 }
 
@@ -69,12 +71,12 @@ fn fill(book: &Book, discard: u8, used: u64, rows: &mut Rows) {
 /// A client's least hours are taken off its bids and handed back.
 fn settle(client: usize, rows: &mut Rows) -> u64 {
     let count = rows[COUNTS + client] as usize;
-    let mut less = if 0 < count { rows[ROW * client + 1] } else { 0 };
+    let mut less = if 0 < count { rows[ROW * client + HOURS] } else { 0 };
     for d in 0..count {
-        less = least(less, rows[ROW * client + 2 * d + 1]);
+        less = least(less, rows[ROW * client + BID * d + HOURS]);
     }
     for d in 0..count {
-        rows[ROW * client + 2 * d + 1] -= less;
+        rows[ROW * client + BID * d + HOURS] -= less;
     }
     less
 }
@@ -101,11 +103,11 @@ fn last_bid(set: usize, used: u64, floor: u64, rows: &Rows) -> u64 {
         if count <= d {
             return floor;
         }
-        let weight = rows[ROW * client + 2 * d];
+        let weight = rows[ROW * client + BID * d];
         if weight <= floor {
             return floor;
         }
-        let after = used + rows[ROW * client + 2 * d + 1];
+        let after = used + rows[ROW * client + BID * d + HOURS];
         if fits(after) {
             return weight;
         }
@@ -125,11 +127,11 @@ fn search_full(ahead: usize, set: usize, used: u64, floor: u64, rows: &Rows, val
     let mut top = floor;
     let mut d = 0;
     while d < count {
-        let weight = rows[ROW * client + 2 * d];
+        let weight = rows[ROW * client + BID * d];
         if weight + ceiling <= top {
             return top;
         }
-        let after = used + rows[ROW * client + 2 * d + 1];
+        let after = used + rows[ROW * client + BID * d + HOURS];
         if fits(after) {
             let base = top.saturating_sub(weight);
             let more = if ahead == 2 {
