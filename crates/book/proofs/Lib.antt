@@ -12,7 +12,6 @@ pub mod RowLaws
 pub mod Tests
 pub mod Lists
 pub mod AskedHours
-pub mod Counted
 pub mod Tally
 pub mod ReservedHours
 pub mod HeldTests

@@ -1,26 +1,35 @@
 -- The counts of each client's bids held to the limit, client by client. Cited by the proofs of src/limit.rt. Assumes nothing.
 use mathlib.Core.Path.{_≡_, refl, sym, ap, ap₂, _∙_}
-use mathlib.Core.Bool.{Bool, true, false, _&&_, cond, true≢false, and-eq-true-iff}
-use mathlib.Core.List.{List}
-use Prim.Native.Nat.{ℕ, zero, suc, _+_, _*_, _/_, _%_, _^_, _≤_, _<_}
+use mathlib.Core.Bool.{Bool, true, false, _&&_, cond, true≢false}
+use mathlib.Core.List.{List, [], _∷_}
+use Prim.Native.Nat.{ℕ, zero, suc, _+_, _≤_, _<_}
 use native.Mathlib.Numerals.{add-one}
 use native.Mathlib.Omega.{arith}
 use lib.Dec.{leb, eqb}
 use lib.ListN.{getD}
 use borrow.Author.Tests.{le-leb, lt-leb}
-use Rattle.book.specs.Lists.{within, all, all-to, count, row}
-use Rattle.book.specs.Book.{no-bid}
-use Rattle.book.specs.Questions.{bid-good, bids-of, few-bids}
+use Rattle.book.specs.Lists.{all, all-to, count, row}
+use Rattle.book.specs.Questions.{bids-of, few-bids}
 use Rattle.book.specs.Value.{bid-held}
-use Rattle.book.specs.Room.{named, Named}
-use Rattle.book.proofs.RowLaws.{row-length, row-at}
-use Rattle.book.proofs.Tests.{within-true, all-true, all-to-true}
-use Rattle.book.proofs.Counted.{times, counted, counted-at}
+use Rattle.book.specs.Room.{named}
+use Rattle.book.proofs.Tests.{all-to-true}
 
--- how often a client is named, in the number that holds all counts
-pub named-count : (c m : ℕ) (cs : List ℕ) → m ≤ 48 → counted (row m 0 (λ i. getD cs i 0)) / 2 ^ (8 * c) % 256 ≡ named c m cs
-unfolding named
-named-count c m cs l = counted-at c (row m 0 (λ i. getD cs i 0)) (omega (arith, row-length m 0 (λ i. getD cs i 0)))
+-- how often a number stands in a list, from its front on
+abbrev pub times : (c : ℕ) → List ℕ → ℕ
+times c xs = count (λ x. eqb x c) xs
+
+pub times-next : (c x : ℕ) (xs ys : List ℕ) (before one : ℕ) → xs ≡ x ∷ ys → one ≡ cond (eqb x c) 1 0
+    → before + one + times c ys ≡ before + times c xs
+unfolding count
+times-next c x xs ys before one e o = rw e (omega arith)
+
+pub one-most : (b : Bool) (one : ℕ) → one ≡ cond b 1 0 → one ≤ 1
+one-most true one e = omega arith
+one-most false one e = omega arith
+
+pub times-done : (c : ℕ) (xs : List ℕ) (all whole : ℕ) → xs ≡ [] → all + times c xs ≡ whole → all ≡ whole
+unfolding count
+times-done c xs all whole e h = omega (arith, rw e at h)
 
 -- a client is named at most eight times
 unfoldable pub few-named : (m : ℕ) → List ℕ → (client : ℕ) → Bool
@@ -62,17 +71,3 @@ module _ (cs : List ℕ) (k : ℕ) (hs xs : List ℕ) where
   pub few-for-bids : (n m : ℕ) → all-to n (few-named m cs) ≡ all-to n (few-bids (row m 0 (bid-held k cs hs xs)))
   unfolding few-named few-bids named
   few-for-bids n m = all-to-same _ _ (λ c. ap (λ (s : ℕ). leb s 8) (times-bids c m 0)) n
-
-  -- bids that are good name clients up to n
-  good-each : (n m : ℕ) → n ≤ 6 → all (bid-good n) (row m 0 (bid-held k cs hs xs)) ≡ true → (i : ℕ) → i < m → getD cs i 0 ≤ 6
-  unfolding bid-good bid-held
-  good-each n m l h i lm =
-      let bids = row m 0 (bid-held k cs hs xs) in
-      let good = all-true (bid-good n) no-bid bids h i (omega (arith, row-length m 0 (bid-held k cs hs xs))) in
-      let here : 0 + i ≡ i = omega arith in
-      let named = and-eq-true-iff (within 1 (getD bids i no-bid .client) n) _ .0 good .0 in
-      let most = within-true 1 (getD bids i no-bid .client) n named .1 in
-      omega (arith, rw (row-at m 0 (bid-held k cs hs xs) i no-bid lm, here) at most)
-
-  pub good-named : (n m : ℕ) → n ≤ 6 → m ≤ 48 → all (bid-good n) (row m 0 (bid-held k cs hs xs)) ≡ true → Named m cs
-  good-named n m l lm h = record { bids = lm; each = good-each n m l h }

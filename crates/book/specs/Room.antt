@@ -4,7 +4,7 @@
 use mathlib.Core.Path.{_≡_}
 use mathlib.Core.Bool.{true, _&&_, not, cond}
 use mathlib.Core.List.{List}
-use Prim.Native.Nat.{ℕ, _+_, _*_, _≤_, _<_}
+use Prim.Native.Nat.{ℕ, _+_, _*_, _≤_}
 use lib.Dec.{ltb, eqb}
 use lib.ListN.{length, getD}
 use Rattle.sets.specs.Tables.{tabulate}
@@ -47,11 +47,6 @@ products hs at rs =
 -- how often a client stands among the first m entries
 unfoldable pub named : (client m : ℕ) → List ℕ → ℕ
 named c m cs = count (λ x. eqb x c) (row m 0 (λ i. getD cs i 0))
-
--- m entries, of which none is above 6: an array of seven has a place for each client that they name
-pub record Named (m : ℕ) (cs : List ℕ) : Type 0 where
-  pub bids : m ≤ 48
-  pub each : (i : ℕ) → i < m → getD cs i 0 ≤ 6
 
 -- questions 4 and 5, of n clients' bids over some kinds: the number of the first 'no', and 0 where there is none
 unfoldable pub bids-refusal : (n : ℕ) → List Kind → List Bid → ℕ

@@ -6,7 +6,6 @@ use mathlib.Core.Bool.{true}
 use Rattle.book.specs.Lists.{all, all-to}
 use Rattle.book.specs.Questions.{bid-good, few-bids}
 use Rattle.book.specs.Room.{bids-held, bids-refusal}
-use Rattle.book.proofs.Tally.{good-named}
 use Rattle.book.proofs.test_of_value.bids_number.Statement.{statement}
 use Rattle.book.proofs.test_of_value.bids_number.Tie as tie
 
@@ -24,10 +23,7 @@ few-good : (c : tie.Else2) → let a = c .before .before .before .before .args i
 few-good c = sym (c .before .few-for-each .ensures _ _ _) ∙ not-false _ (c .if2 .left)
 
 few-for-each-requires : tie.Need-few-for-each-requires
-few-for-each-requires c κs =
-    let start = c .before .before in
-    let a = start .args in
-    (start .pre .clients, good-named _ (a .k) (a .hours .now) (a .amount .now) _ _ (start .pre .clients) (start .pre .bids) (each-good c))
+few-for-each-requires c κs = let start = c .before .before in (start .pre .clients, start .pre .bids)
 
 returns-2 : tie.Need-returns-2
 unfolding bids-refusal
