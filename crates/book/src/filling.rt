@@ -5,7 +5,7 @@ ghost use mathlib.Core.Path.{_≡_};
 ghost use mathlib.Core.Bool.{cond};
 ghost use Prim.Native.Nat.{_+_, _/_, _%_, _≤_, _<_};
 ghost use lib.Dec.{eqb};
-ghost use lib.ListN.{length, getD};
+ghost use lib.ListN.{length, getD, replicate};
 ghost use Rattle.sets.specs.Tables.{tabulate};
 ghost use Rattle.book.specs.Bytes.{bytes-at};
 ghost use Rattle.book.specs.Book.{no-bid};
@@ -93,20 +93,28 @@ pub(crate) fn caps(input: &[u8], n: usize, at: usize) -> [u16; 6]
     [first, second, third, fourth, fifth, sixth]
 }
 
-// The clients of m bids.
-pub(crate) fn clients(input: &[u8], k: usize, m: usize, at: usize) -> [u8; 48]
+// The clients and the amounts of m bids, into arrays of zeros. One loop fills both: with two of them reading took longer.
+pub(crate) fn fill_payers(
+    input: &[u8],
+    k: usize,
+    m: usize,
+    at: usize,
+    client: &mut [u8; 48],
+    amount: &mut [u32; 48],
+)
     requires { ⌜ Bids-inside (now input) k m at ⌝ }
-    ensures { λ r. ⌜ r ≡ tabulate 48 (λ i. getD (bids-in m k at (now (input .entry))) i no-bid .client) ⌝ }
+    requires { ⌜ (now client ≡ replicate 48 0) × (now amount ≡ replicate 48 0) ⌝ }
+    ensures { λ _. ⌜ now (client .exit) ≡ tabulate 48 (λ i. getD (bids-in m k at (now (input .entry))) i no-bid .client) ⌝ }
+    ensures { λ _. ⌜ now (amount .exit) ≡ tabulate 48 (λ i. getD (bids-in m k at (now (input .entry))) i no-bid .amount) ⌝ }
 {
-    let mut client = [0u8; 48];
     let mut place = at;
     let mut i: usize = 0;
     while i < m {
         client[i] = input[place];
+        amount[i] = bytes::four_in(input, place + (k + 1));
         place = place + (k + 5);
         i = i + 1;
     }
-    client
 }
 
 // A byte where it counts, and 0 where it does not.
@@ -134,20 +142,4 @@ pub(crate) fn hours(input: &[u8], k: usize, m: usize, at: usize) -> [u8; 192]
         i = i + 1;
     }
     hours
-}
-
-// The amounts of m bids.
-pub(crate) fn amounts(input: &[u8], k: usize, m: usize, at: usize) -> [u32; 48]
-    requires { ⌜ Bids-inside (now input) k m at ⌝ }
-    ensures { λ r. ⌜ r ≡ tabulate 48 (λ i. getD (bids-in m k at (now (input .entry))) i no-bid .amount) ⌝ }
-{
-    let mut amount = [0u32; 48];
-    let mut place = at;
-    let mut i: usize = 0;
-    while i < m {
-        amount[i] = bytes::four_in(input, place + (k + 1));
-        place = place + (k + 5);
-        i = i + 1;
-    }
-    amount
 }

@@ -52,9 +52,10 @@ fn read_bids(
 {
     let statuses = 5 + 3 * k;
     let bids = 6 + 3 * k + n;
-    let client = filling::clients(input, k, m, bids);
+    let mut client = [0u8; 48];
+    let mut amount = [0u32; 48];
+    filling::fill_payers(input, k, m, bids, &mut client, &mut amount);
     let hours = filling::hours(input, k, m, bids);
-    let amount = filling::amounts(input, k, m, bids);
     let number = test_of_value::bids_number(k, n, m, reserve, &client, &hours, &amount);
     if number != 0 {
         return refused(number);

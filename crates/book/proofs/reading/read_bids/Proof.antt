@@ -1,6 +1,6 @@
 -- `reading::read_bids` meets its contract. Assumes nothing.
 use borrow.Author.Needs.{needs}
-use mathlib.Core.Path.{_≡_, sym, _∙_}
+use mathlib.Core.Path.{_≡_, refl, sym, _∙_}
 use native.Mathlib.Omega.{arith}
 use Rattle.book.specs.Questions.{book-refusal}
 use Rattle.book.proofs.Answering.{
@@ -34,31 +34,28 @@ add-bids c = omega (arith, counted (c .before) .room .kinds)
 add-bids-2 : tie.Need-add-bids-2
 add-bids-2 c = omega (arith, counted (c .before) .room .kinds, counted (c .before) .room .clients)
 
-clients-requires : tie.Need-clients-requires
-clients-requires c κs = counted (c .before) .bids
+fill-payers-requires : tie.Need-fill-payers-requires
+fill-payers-requires c κs = (counted (c .before .before .before) .bids, (refl, refl))
 
 hours-requires : tie.Need-hours-requires
-hours-requires c κs = counted (c .before .before) .bids
-
-amounts-requires : tie.Need-amounts-requires
-amounts-requires c κs = counted (c .before .before .before) .bids
+hours-requires c κs = counted (c .before .before .before .before) .bids
 
 bids-number-requires : tie.Need-bids-number-requires
-bids-number-requires c κs = counted (c .before .before .before .before .before .before .before) .room
+bids-number-requires c κs = counted (c .before .before .before .before .before .before .before .before) .room
 
 -- the number of questions 4 and 5 is the bytes'
 numbered : (c : tie.After-bids-number) →
-    c .bids-number .result ≡ book-refusal (c .before .before .before .before .before .before .before .before .args .input .now)
+    c .bids-number .result ≡ book-refusal (c .before .before .before .before .before .before .before .before .before .args .input .now)
 numbered c =
-    let amounts = c .before .before .before .before in
-    let start = amounts .before .before .before .before in
+    let hours = c .before .before .before .before in
+    let start = hours .before .before .before .before .before in
     let t = start .pre in
     let a = start .args in
     number-is _ _ _ _ (t .two) (t .kinds) (t .clients) (t .bids) (a .supply) (a .reserve) (t .supplies) (t .reserves) _ _ _ _
     (t .one) (t .three)
-    (clients-are _ _ _ _ (t .two) (t .kinds) (t .clients) (t .bids) _ (amounts .before .before .clients .ensures))
-    (hours-are _ _ _ _ (t .two) (t .kinds) (t .clients) (t .bids) _ (amounts .before .hours .ensures))
-    (amounts-are _ _ _ _ (t .two) (t .kinds) (t .clients) (t .bids) _ (amounts .amounts .ensures))
+    (clients-are _ _ _ _ (t .two) (t .kinds) (t .clients) (t .bids) _ (hours .before .fill-payers .ensures .0))
+    (hours-are _ _ _ _ (t .two) (t .kinds) (t .clients) (t .bids) _ (hours .hours .ensures))
+    (amounts-are _ _ _ _ (t .two) (t .kinds) (t .clients) (t .bids) _ (hours .before .fill-payers .ensures .1))
     (c .bids-number .ensures (start .args .supply))
 
 returns : tie.Need-returns
@@ -66,7 +63,7 @@ returns c = rw (c .refused .ensures) (refused-is _ _ (numbered (c .before .befor
 
 -- the function's start
 abbrev begin : tie.Else1 → tie.Start
-begin c = c .before .before .before .before .before .before .before .before .before
+begin c = c .before .before .before .before .before .before .before .before .before .before
 
 caps-requires : tie.Need-caps-requires
 caps-requires c κs = counted (begin c) .statuses
@@ -83,15 +80,15 @@ cast-count c = omega (arith, counted (begin (c .before)) .room .bids)
 returns-2 : tie.Need-returns-2
 returns-2 c =
     let number = c .before .before .before in
-    let amounts = number .before .before .before .before in
+    let hours = number .before .before .before .before in
     let start = begin (c .before .before) in
     let t = start .pre in
     accepted-is _ (sym (numbered number) ∙ c .before .before .if1 .left) _ _ (c .length .ensures)
     (arrays-are _ _ _ _ (t .two) (t .kinds) (t .clients) (t .bids) _ _ _ _ _ _ (t .supplies) (t .reserves)
     (caps-are _ _ _ _ (t .two) (t .kinds) (t .clients) (t .bids) _ (c .before .caps .ensures))
-    (clients-are _ _ _ _ (t .two) (t .kinds) (t .clients) (t .bids) _ (amounts .before .before .clients .ensures))
-    (hours-are _ _ _ _ (t .two) (t .kinds) (t .clients) (t .bids) _ (amounts .before .hours .ensures))
-    (amounts-are _ _ _ _ (t .two) (t .kinds) (t .clients) (t .bids) _ (amounts .amounts .ensures)))
+    (clients-are _ _ _ _ (t .two) (t .kinds) (t .clients) (t .bids) _ (hours .before .fill-payers .ensures .0))
+    (hours-are _ _ _ _ (t .two) (t .kinds) (t .clients) (t .bids) _ (hours .hours .ensures))
+    (amounts-are _ _ _ _ (t .two) (t .kinds) (t .clients) (t .bids) _ (hours .before .fill-payers .ensures .1)))
 
 pub read-bids-spec : {M : Type 1} → statement M
 read-bids-spec =
@@ -102,9 +99,8 @@ read-bids-spec =
     mul-statuses
     add-bids
     add-bids-2
-    clients-requires
+    fill-payers-requires
     hours-requires
-    amounts-requires
     bids-number-requires
     (λ c κs. search needs)
     returns
