@@ -1,5 +1,5 @@
-// A book's entries put from its bytes into arrays, one array by each function, with zeros past the counts and for hours past the kinds
-// (specs/Reading.antt). The loops over bids test no length: the caller has put question 2, so that the bids stand inside the bytes.
+// A book's entries put from its bytes into arrays, with zeros past the counts and for hours past the kinds (specs/Reading.antt). The loops
+// over bids test no length: the caller has put question 2, so that the bids stand inside the bytes.
 use crate::bytes;
 ghost use mathlib.Core.Path.{_≡_};
 ghost use mathlib.Core.Bool.{cond};
@@ -93,7 +93,7 @@ pub(crate) fn caps(input: &[u8], n: usize, at: usize) -> [u16; 6]
     [first, second, third, fourth, fifth, sixth]
 }
 
-// The clients and the amounts of m bids, into arrays of zeros. One loop fills both: with two of them reading took longer.
+// The clients and the amounts of m bids, into arrays of zeros. One loop fills both, which takes less time than two.
 pub(crate) fn fill_payers(
     input: &[u8],
     k: usize,
