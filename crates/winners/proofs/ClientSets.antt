@@ -8,8 +8,8 @@ use Prim.Native.Nat.{ℕ, zero, suc, _+_, _-_, _/_, _%_, _^_, _≤_, _<_, min}
 use native.Mathlib.Nat.{pow-suc, le-of-suc-le-suc}
 use native.Mathlib.Decide.{ℕ-discrete, decLt}
 use native.Mathlib.Omega.{arith}
-use borrow.Author.Tests.{eqb-true, eq-eqb, ne-eqb}
-use lib.Bits.{bitAnd, and-shr, and-step, and-le-l}
+use borrow.Author.Tests.{eqb-true, eqb-false, eq-eqb, ne-eqb}
+use lib.Bits.{bitAnd, and-shr, and-step, and-self, and-le-l}
 use lib.Count.{under, trailingZeros}
 use lib.Dec.{eqb}
 use lib.ListN.{length}
@@ -206,6 +206,29 @@ unfolding trailingZeros
 lowest-is zero s l u = absurd (omega arith)
 lowest-is (suc k) s l u =
     by-low s (trailingZeros k (s / 2)) (s % 2) refl (λ e. lowest-is k (s / 2) (omega arith) (omega (arith, pow-suc 2 k)))
+
+-- one less has every bit above it as it was, and not the bit itself
+lowest-off : (j s : ℕ) → Lowest s j → bitAnd s (s - 1) ≡ s - 2 ^ j
+lowest-off zero s l =
+    let odd : s % 2 ≡ 1 = eqb-true (s % 2) 1 (sym (has-low s) ∙ l .there) in
+    let half : (s - 1) / 2 ≡ s / 2 = omega arith in
+    let above : bitAnd (s / 2) ((s - 1) / 2) ≡ s / 2 = rw half (and-self (s / 2)) in
+    omega (arith, and-step s (s - 1))
+lowest-off (suc j) s l =
+    let even : s % 2 ≡ 0 = low (s % 2) (omega arith) (sym (has-low s) ∙ l .none 0 (omega arith)) in
+    let there = has-there (s / 2) j (sym (has-half s j) ∙ l .there) in
+    let half : (s - 1) / 2 ≡ s / 2 - 1 = omega (arith, pow-pos j) in
+    let above = lowest-off j (s / 2) (record {
+      there = sym (has-half s j) ∙ l .there;
+      none = λ i b. sym (has-half s i) ∙ l .none (suc i) (omega arith);
+    }) in
+    omega (arith, and-step s (s - 1), ap (λ (x : ℕ). bitAnd (s / 2) x) half, above, there, pow-suc 2 j)
+  where
+    low : (d : ℕ) → d < 2 → eqb d 1 ≡ false → d ≡ 0
+    low d b n = omega (arith, eqb-false d 1 n)
+
+pub others-are : (s c : ℕ) → First s c → bitAnd s (s - 1) ≡ s - 2 ^ (c - 1)
+others-are s c f = lowest-off (c - 1) s (record { there = f .there; none = f .none })
 
 -- the first client, by the zeros below it
 pub first-is : (s r : ℕ) → 1 ≤ s → s < 64 → r ≡ trailingZeros 64 s + 1 → First s r

@@ -3,7 +3,7 @@
 use mathlib.Core.Path.{_≡_}
 use mathlib.Core.Bool.{true, false}
 use mathlib.Core.List.{List}
-use Prim.Native.Nat.{ℕ, _-_, _≤_, _<_}
+use Prim.Native.Nat.{ℕ, _-_, _^_, _≤_, _<_}
 use Rattle.sets.specs.Sets.{has}
 use Rattle.market.specs.Members.{members}
 
@@ -17,6 +17,11 @@ pub record First (set c : ℕ) : Type 0 where
   pub high : c ≤ 6
   pub there : has set (c - 1) ≡ true
   pub none : (j : ℕ) → j < c - 1 → has set j ≡ false
+
+-- r is the set without its first client
+pub record Others (set r : ℕ) : Type 0 where
+  pub fewer : r < set
+  pub is : (c : ℕ) → First set c → r ≡ set - 2 ^ (c - 1)
 
 -- every client of the set is one of the other
 abbrev pub Within : (set other : ℕ) → Type 0

@@ -14,8 +14,7 @@ ghost use mathlib.Core.List.{List};
 ghost use Prim.Native.Nat.{ℕ};
 ghost use Rattle.winners.specs.Full.{Searchable, Searched};
 
-// The same for one client, the last: as weights fall, the first of its bids that fits is its best, if it beats the floor. The loop ends
-// with the room of a row, so that a compiler can write it out.
+// The same for one client, the last: as weights fall, the first of its bids that fits is its best.
 fn last_bid(set: usize, used: u64, floor: u64, rows: &[u64; ROWS_END]) -> u64
     requires { ⌜ ((values : List ℕ) × Searchable 1 set used floor (now rows) values) ⌝ }
     ensures { λ r. ⌜ ((values : List ℕ) → Searched set used floor (now (rows .entry)) values r) ⌝ }
@@ -23,25 +22,47 @@ fn last_bid(set: usize, used: u64, floor: u64, rows: &[u64; ROWS_END]) -> u64
     let client = client_sets::first(set);
     let count = rows[COUNTS + client] as usize;
     let mut d: usize = 0;
-    while d < ROW_BIDS {
-        if count <= d {
-            return floor;
-        }
-        let weight = rows[ROW * client + BID * d];
-        if weight <= floor {
-            return floor;
-        }
+    while d < count {
         let taken = used + rows[ROW * client + BID * d + HOURS];
         if lanes::guards_set(taken) == 0 {
-            return weight;
+            return numbers::larger(floor, rows[ROW * client + BID * d]);
         }
         d += 1;
     }
     floor
 }
 
+// The same for two clients, the last: for each bid of the first that fits, the best of the other's. The loop ends with the room of a row,
+// so that a compiler can write it out.
+fn last_pair(set: usize, used: u64, floor: u64, rows: &[u64; ROWS_END], values: &[u64; SETS]) -> u64
+    requires { ⌜ Searchable 2 set used floor (now rows) (now values) ⌝ }
+    ensures { λ r. ⌜ Searched set used floor (now (rows .entry)) (now (values .entry)) r ⌝ }
+{
+    let client = client_sets::first(set);
+    let rest = client_sets::others(set);
+    let most = values[rest];
+    let count = rows[COUNTS + client] as usize;
+    let mut top = floor;
+    let mut d: usize = 0;
+    while d < ROW_BIDS {
+        if count <= d {
+            return top;
+        }
+        let after = used + rows[ROW * client + BID * d + HOURS];
+        if lanes::guards_set(after) == 0 {
+            let weight = rows[ROW * client + BID * d];
+            if weight + most <= top {
+                return top;
+            }
+            top = weight + last_bid(rest, after, numbers::excess(top, weight), rows);
+        }
+        d += 1;
+    }
+    top
+}
+
 // The larger of the floor and of that value for a set of clients (`ahead` of them), in whatever market the rows lay out. By set, the values
-// of the clients left are ceilings. The last client takes no call of its own.
+// of the clients left are ceilings. The last two clients take no call of their own.
 pub(crate) fn search_full(
     ahead: usize,
     set: usize,
@@ -56,8 +77,11 @@ pub(crate) fn search_full(
     if ahead == 1 {
         return last_bid(set, used, floor, rows);
     }
+    if ahead == 2 {
+        return last_pair(set, used, floor, rows, values);
+    }
     let client = client_sets::first(set);
-    let rest = client_sets::others(set, client);
+    let rest = client_sets::others(set);
     let ceiling = values[rest];
     let count = rows[COUNTS + client] as usize;
     let mut top = floor;
@@ -70,8 +94,8 @@ pub(crate) fn search_full(
         let after = used + rows[ROW * client + BID * d + HOURS];
         if lanes::guards_set(after) == 0 {
             let base = numbers::excess(top, weight);
-            let more = if ahead == 2 {
-                last_bid(rest, after, base, rows)
+            let more = if ahead == 3 {
+                last_pair(rest, after, base, rows, values)
             } else {
                 search_full(ahead - 1, rest, after, base, rows, values)
             };

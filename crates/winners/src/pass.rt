@@ -40,7 +40,7 @@ fn floor_of(set: usize, values: &[u64; SETS]) -> Floor
     let mut clients: usize = 0;
     let mut left = set;
     while 0 < left {
-        let rest = client_sets::others(left, client_sets::first(left));
+        let rest = client_sets::others(left);
         value = numbers::larger(value, values[set - (left - rest)]);
         clients += 1;
         left = rest;
@@ -88,7 +88,7 @@ fn weigh_sets(held: usize, used: u64, rows: &[u64; ROWS_END], leasts: &[u64; ROW
             values[set] = value;
         } else {
             let first = client_sets::first(set);
-            let before = taken[client_sets::others(set, first)];
+            let before = taken[client_sets::others(set)];
             let after = taken::with_least(before, leasts[first]);
             taken[set] = after;
             let value = value_of(set, after, rows, &values);

@@ -90,38 +90,59 @@ fn first(set: usize) -> usize {
     (set as u64).trailing_zeros() as usize + 1
 }
 
-fn others(set: usize, first: usize) -> usize {
-    set - (1 << (first - 1))
+fn others(set: usize) -> usize {
+    set & (set - 1)
 }
 
-/// The search for the last client: the first of its bids that fits, if it beats the floor.
+/// The search for the last client: the first of its bids that fits is its best.
 fn last_bid(set: usize, used: u64, floor: u64, rows: &Rows) -> u64 {
     let client = first(set);
     let count = rows[COUNTS + client] as usize;
     let mut d = 0;
-    while d < ROW_BIDS {
-        if count <= d {
-            return floor;
-        }
-        let weight = rows[ROW * client + BID * d];
-        if weight <= floor {
-            return floor;
-        }
-        let after = used + rows[ROW * client + BID * d + HOURS];
-        if fits(after) {
-            return weight;
+    while d < count {
+        let taken = used + rows[ROW * client + BID * d + HOURS];
+        if fits(taken) {
+            return floor.max(rows[ROW * client + BID * d]);
         }
         d += 1;
     }
     floor
 }
 
+/// The search for the last two.
+fn last_pair(set: usize, used: u64, floor: u64, rows: &Rows, values: &Values) -> u64 {
+    let client = first(set);
+    let rest = others(set);
+    let most = values[rest];
+    let count = rows[COUNTS + client] as usize;
+    let mut top = floor;
+    let mut d = 0;
+    while d < ROW_BIDS {
+        if count <= d {
+            return top;
+        }
+        let after = used + rows[ROW * client + BID * d + HOURS];
+        if fits(after) {
+            let weight = rows[ROW * client + BID * d];
+            if weight + most <= top {
+                return top;
+            }
+            top = weight + last_bid(rest, after, top.saturating_sub(weight), rows);
+        }
+        d += 1;
+    }
+    top
+}
+
 fn search_full(ahead: usize, set: usize, used: u64, floor: u64, rows: &Rows, values: &Values) -> u64 {
     if ahead == 1 {
         return last_bid(set, used, floor, rows);
     }
+    if ahead == 2 {
+        return last_pair(set, used, floor, rows, values);
+    }
     let client = first(set);
-    let rest = others(set, client);
+    let rest = others(set);
     let ceiling = values[rest];
     let count = rows[COUNTS + client] as usize;
     let mut top = floor;
@@ -134,8 +155,8 @@ fn search_full(ahead: usize, set: usize, used: u64, floor: u64, rows: &Rows, val
         let after = used + rows[ROW * client + BID * d + HOURS];
         if fits(after) {
             let base = top.saturating_sub(weight);
-            let more = if ahead == 2 {
-                last_bid(rest, after, base, rows)
+            let more = if ahead == 3 {
+                last_pair(rest, after, base, rows, values)
             } else {
                 search_full(ahead - 1, rest, after, base, rows, values)
             };
@@ -157,7 +178,7 @@ fn floor_of(set: usize, values: &Values) -> Floor {
     let mut clients = 0;
     let mut left = set;
     while 0 < left {
-        let rest = others(left, first(left));
+        let rest = others(left);
         value = value.max(values[set - (left - rest)]);
         clients += 1;
         left = rest;
@@ -182,7 +203,7 @@ fn weigh_sets(held: usize, used: u64, rows: &Rows, leasts: &[u64; 7]) -> Values 
             values[set] = values[some];
         } else {
             let first = first(set);
-            taken[set] = with_least(taken[others(set, first)], leasts[first]);
+            taken[set] = with_least(taken[others(set)], leasts[first]);
             values[set] = value_of(set, taken[set], rows, &values);
         }
     }

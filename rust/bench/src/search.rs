@@ -29,23 +29,35 @@ fn floor_of(set: usize, values: &[u64; SETS]) -> u64 {
     floor
 }
 
-/// The same search for one client.
+/// The same search for one client: as weights fall, the first of its bids that fits is its best.
 fn last(row: &Row, used: u64, floor: u64) -> u64 {
-    for bid in row.bids() {
-        if bid.weight <= floor {
-            return floor;
-        }
-        if fits(used + bid.hours) {
-            return bid.weight;
+    row.bids().iter().find(|bid| fits(used + bid.hours)).map_or(floor, |bid| floor.max(bid.weight))
+}
+
+/// The same for two clients.
+fn pair(rows: &[Row; 6], values: &[u64; SETS], set: usize, used: u64, floor: u64) -> u64 {
+    let (client, rest) = split(set);
+    let (other, _) = split(rest);
+    let mut top = floor;
+    for bid in rows[client].bids() {
+        let after = used + bid.hours;
+        if fits(after) {
+            if bid.weight + values[rest] <= top {
+                return top;
+            }
+            top = bid.weight + last(&rows[other], after, top.saturating_sub(bid.weight));
         }
     }
-    floor
+    top
 }
 
 /// The value of the best combination with a bid of each client of a set, or the floor where that is no less. The value of the clients still
-/// to come is a ceiling. Where the last client is apart, it is searched without a further call, as in ours.
+/// to come is a ceiling. Where the last two clients are apart, they are searched without a further call, as in ours.
 fn search<const APART: bool>(rows: &[Row; 6], values: &[u64; SETS], set: usize, used: u64, floor: u64) -> u64 {
     let (client, rest) = split(set);
+    if APART && rest.is_power_of_two() {
+        return pair(rows, values, set, used, floor);
+    }
     let ceiling = values[rest];
     let mut top = floor;
     for bid in rows[client].bids() {
@@ -58,8 +70,8 @@ fn search<const APART: bool>(rows: &[Row; 6], values: &[u64; SETS], set: usize, 
                 return bid.weight;
             }
             let base = top.saturating_sub(bid.weight);
-            let more = if APART && rest.is_power_of_two() {
-                last(&rows[rest.trailing_zeros() as usize], after, base)
+            let more = if APART && split(rest).1.is_power_of_two() {
+                pair(rows, values, rest, after, base)
             } else {
                 search::<APART>(rows, values, rest, after, base)
             };

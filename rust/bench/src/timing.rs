@@ -1,5 +1,5 @@
-//! Ratios of times in one run: the programs that are compared take short turns, round after round, and each counts with the lower
-//! quartile of its times.
+//! Ratios of times in one run: the programs that are compared take short turns, round after round. Each round gives a ratio, and the
+//! median counts.
 
 use std::fs::read_to_string;
 use std::hint::black_box;
@@ -70,15 +70,11 @@ impl Rounds {
         }
     }
 
-    /// The lower quartile of a work's times: neither the turns that were broken into nor the luckiest one.
-    fn time(&self, of: usize) -> f64 {
-        let mut times: Vec<f64> = self.0.iter().map(|round| round[of]).collect();
-        times.sort_unstable_by(f64::total_cmp);
-        times[times.len() / 4]
-    }
-
-    /// The time of one work over that of another.
+    /// The time of one work over that of another: the median of the rounds' ratios. What slows the machine down for some time slows both
+    /// turns of a round.
     pub fn ratio(&self, of: usize, over: usize) -> f64 {
-        self.time(of) / self.time(over)
+        let mut ratios: Vec<f64> = self.0.iter().map(|round| round[of] / round[over]).collect();
+        ratios.sort_unstable_by(f64::total_cmp);
+        ratios[ratios.len() / 2]
     }
 }

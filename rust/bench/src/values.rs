@@ -31,7 +31,7 @@ pub fn asked(book: &[u8]) -> u64 {
     book::read(black_box(book)).map_or(0, |book| search::surpluses::<false>(&book).sum())
 }
 
-/// The same with the last client apart.
+/// The same with the last two clients apart.
 pub fn asked_apart(book: &[u8]) -> u64 {
     book::read(black_box(book)).map_or(0, |book| search::surpluses::<true>(&book).sum())
 }
@@ -147,8 +147,8 @@ impl Measured {
 
 pub fn table() {
     println!("All 64 greatest values of full books, a book at a call: our time over that in Rust of the plain recursion, of a branch");
-    println!("and bound, of the old search, of the same search, without questions, asked, and asked with the last client apart, and of");
-    println!("ours put into Rust line by line; and of one value at a call, over the old search and over the same search. But for the");
+    println!("and bound, of the old search, of the same search, without questions, asked, and asked with the last two clients apart,");
+    println!("and of ours put into Rust line by line; and of one value at a call, over the old search and over the same search. But for the");
     println!("first two, and the same search once, all read the book and put questions 1 to 5 at each call, as ours does.");
     println!();
     println!("{:22}{:>10}{:>8}{:>8}{:>24}{:>14}{:>18}", "", "", "", "", "the same search", "", "one by one");

@@ -1,18 +1,14 @@
 -- `full::search_full` meets its contract. The measure is the number of clients left; the loop keeps what the row's places from its own on
 -- reach, in every market that the rows lay out. Assumes nothing.
 use borrow.Author.Needs.{needs}
-use borrow.Author.Tests.{eq-eqb, ne-eqb}
-use mathlib.Core.Path.{_≡_, refl, sym, subst, _∙_}
-use mathlib.Core.Bool.{true, false}
+use mathlib.Core.Path.{_≡_, sym, subst}
 use mathlib.Core.Logic.{⊎-elim}
-use Prim.Native.Nat.{ℕ, _+_, _*_, _-_, _≤_, _<_}
+use Prim.Native.Nat.{ℕ, _+_, _-_, _≤_, _<_}
 use native.Mathlib.Omega.{arith}
-use lib.Bits.{bitAnd}
-use lib.Dec.{eqb}
 use lib.ListN.{getD}
 use Rattle.winners.specs.ClientSets.{First}
 use Rattle.winners.specs.Full.{Searchable, Searched}
-use Rattle.winners.proofs.ClientSets.{others-less}
+use Rattle.winners.specs.Rows.{weight-at, asked-at, row-room}
 use Rattle.winners.proofs.Searching.{Found, somebody, found-first, found-falls, found-left, found-taken, found-end}
 use Rattle.winners.proofs.Searching.{top-few, place-few, weight-few, hours-few, searchable-next}
 use borrow.Fn.Kinds.{In}
@@ -21,10 +17,11 @@ use Rattle.winners.proofs.full.search_full.Reads as search-full
 use Rattle.winners.proofs.full.search_full.Kinds as search-full-kinds
 use Rattle.winners.proofs.full.+search_full.Lts-search_full as lts
 use Rattle.numbers.proofs.excess.Reads as excess-reads
-use Rattle.winners.proofs.full.last_bid.Reads as last-bid-reads
-use Rattle.winners.proofs.lanes.guards_set.Reads as guards-set-reads
 use Rattle.winners.proofs.client_sets.first.Reads as first-reads
 use Rattle.winners.proofs.client_sets.others.Reads as others-reads
+use Rattle.winners.proofs.full.last_bid.Reads as last-bid-reads
+use Rattle.winners.proofs.full.last_pair.Reads as last-pair-reads
+use Rattle.winners.proofs.lanes.guards_set.Reads as guards-set-reads
 use Rattle.winners.proofs.full.+search_full.{statement}
 use Rattle.winners.proofs.full.+search_full.Tie.{close}
 
@@ -41,6 +38,8 @@ abbrev told : ℕ → lts.Claims
 told t = (
   last-bid-reads.Asked,
   last-bid-reads.Learnt,
+  last-pair-reads.Asked,
+  last-pair-reads.Learnt,
   first-reads.Asked,
   first-reads.Learnt,
   others-reads.Asked,
@@ -60,173 +59,150 @@ Inv-loop ahead set used floor rows values client rest ceiling count top₀ d₀ 
 abbrev μ-loop : lts.MeasureT-loop
 μ-loop ahead set used floor rows values client rest ceiling count top₀ d₀ top d = count - d
 
--- one client is left
-last-bid-requires : (t : ℕ) → lts.Need-last-bid-requires (told t) (at-turn t) search-full.Post Inv-loop μ-loop
-last-bid-requires t c κs = let w = c .before .pre .1 in (_, rw (c .if1 .taken) at w)
+module _ (t : ℕ) where
+  -- one client is left, or two are
+  last-bid-requires : lts.Need-last-bid-requires (told t) (at-turn t) search-full.Post Inv-loop μ-loop
+  last-bid-requires c κs = let w = c .before .pre .1 in (_, rw (c .if1 .taken) at w)
 
-returns : (t : ℕ) → lts.Need-returns (told t) (at-turn t) search-full.Post Inv-loop μ-loop
-returns t c = c .last-bid .ensures _
+  returns : lts.Need-returns (told t) (at-turn t) search-full.Post Inv-loop μ-loop
+  returns c = c .last-bid .ensures _
 
-first-requires : (t : ℕ) → lts.Need-first-requires (told t) (at-turn t) search-full.Post Inv-loop μ-loop
-first-requires t c κs =
-    let w = c .before .pre .1 in
-    (somebody (c .before .args .ahead) _ (w .clients-left) (w .some-left), w .set-few)
+  last-pair-requires : lts.Need-last-pair-requires (told t) (at-turn t) search-full.Post Inv-loop μ-loop
+  last-pair-requires c κs = let w = c .before .before .pre .1 in rw (c .if2 .taken) at w
 
-ceiling-place : (t : ℕ) → lts.Need-element-copy-out-ceiling (told t) (at-turn t) search-full.Post Inv-loop μ-loop
-ceiling-place t c =
-    omega (arith, c .others .ensures, others-less _ _ (c .before .first .ensures), c .before .before .before .pre .1 .set-few)
+  first-requires : lts.Need-first-requires (told t) (at-turn t) search-full.Post Inv-loop μ-loop
+  first-requires c κs =
+      let w = c .before .before .pre .1 in
+      (somebody (c .before .before .args .ahead) _ (w .clients-left) (w .some-left), w .set-few)
 
-loop-holds : (t : ℕ) → lts.Need-loop-holds (told t) (at-turn t) search-full.Post Inv-loop μ-loop
-loop-holds t c = let hi = c .before .before .before .first .ensures in (hi, found-first _ _ _ _ _ _ hi)
+  others-requires : lts.Need-others-requires (told t) (at-turn t) search-full.Post Inv-loop μ-loop
+  others-requires c κs = first-requires (c .before) κs
 
--- a turn of the loop
-abbrev Turn : ℕ → Type 0
-Turn t = lts.In-loop (told t) (at-turn t) search-full.Post Inv-loop μ-loop
+  loop-holds : lts.Need-loop-holds (told t) (at-turn t) search-full.Post Inv-loop μ-loop
+  loop-holds c = (c .before .before .before .first .ensures, found-first)
 
-module _ (t : ℕ) (c : Turn t) where
-  abbrev parted : lts.After-others (told t) (at-turn t) search-full.Post Inv-loop μ-loop
-  parted = c .before .before .before .before
+  -- a turn of the loop
+  module _ (c : lts.In-loop (told t) (at-turn t) search-full.Post Inv-loop μ-loop) where
+    abbrev parted : lts.After-others (told t) (at-turn t) search-full.Post Inv-loop μ-loop
+    parted = c .before .before .before .before
 
-  abbrev start : lts.Start (told t) (at-turn t) search-full.Post Inv-loop μ-loop
-  start = parted .before .before .before
+    abbrev start : lts.Start (told t) (at-turn t) search-full.Post Inv-loop μ-loop
+    start = parted .before .before .before .before
 
-  -- the first client, and the others
-  abbrev first : ℕ
-  first = parted .before .first .result
+    abbrev first : ℕ
+    first = parted .before .first .result
 
-  abbrev rest : ℕ
-  rest = parted .others .result
+    abbrev hi : First (start .args .set) first
+    hi = c .before .loop .inv .0
 
-  abbrev client : First (start .args .set) first
-  client = c .before .loop .inv .0
+    abbrev d : ℕ
+    d = c .before .loop .d
 
-  able : let a = start .args in Searchable (a .ahead) (a .set) (a .used) (a .floor) (a .rows .now) (a .values .now)
-  able = start .pre .1
+    able : let a = start .args in Searchable (a .ahead) (a .set) (a .used) (a .floor) (a .rows .now) (a .values .now)
+    able = start .pre .1
 
-  -- more than one client is left
-  several : 2 ≤ start .args .ahead
-  several = omega (arith, able .some-left, parted .before .before .if1 .left)
+    -- more than two clients are left
+    several : 3 ≤ start .args .ahead
+    several = omega (arith, able .some-left, parted .before .before .before .if1 .left, parted .before .before .if2 .left)
 
-  abbrev d : ℕ
-  d = c .before .loop .d
+    near : d < row-room
+    near = place-few able hi d (c .loop-test .taken)
 
-  near : d < 8
-  near = place-few _ _ _ _ _ _ client _ able d (c .loop-test .taken)
+    found : let a = start .args in
+        Found (a .set) first (a .used) (a .floor) (a .rows .now) (a .values .now) hi (c .before .loop .top) d
+    found = c .before .loop .inv .1
 
-  found : let a = start .args in
-      Found (a .set) first (a .used) (a .floor) (a .rows .now) (a .values .now) client (c .before .loop .top) d
-  found = c .before .loop .inv .1
+  add-if3 : lts.Need-add-if3 (told t) (at-turn t) search-full.Post Inv-loop μ-loop
+  add-if3 c =
+      let turn = c .before in
+      omega (
+        arith,
+        weight-few (able turn) (hi turn) (d turn) (turn .loop-test .taken),
+        able turn .values-few (parted turn .others .result),
+      )
 
-add-if2 : (t : ℕ) → lts.Need-add-if2 (told t) (at-turn t) search-full.Post Inv-loop μ-loop
-add-if2 t c =
-    let turn = c .before in
-    omega (
-      arith,
-      weight-few _ _ _ _ _ _ (client t turn) _ (able t turn) (d t turn) (turn .loop-test .taken),
-      able t turn .values-few (rest t turn),
-    )
+  returns-3 : lts.Need-returns-3 (told t) (at-turn t) search-full.Post Inv-loop μ-loop
+  returns-3 c =
+      let turn = c .before .before in
+      found-falls (found turn) (turn .loop-test .taken) (parted turn .others .ensures) (c .if3 .taken)
 
-returns-2 : (t : ℕ) → lts.Need-returns-2 (told t) (at-turn t) search-full.Post Inv-loop μ-loop
-returns-2 t c =
-    let turn = c .before .before in
-    found-falls _ _ _ _ _ _ (client t turn) _ (d t turn) (turn .loop-test .taken) (found t turn)
-    (rw (parted t turn .others .ensures) at (c .if2 .taken))
+  add-after-3 : lts.Need-add-after-3 (told t) (at-turn t) search-full.Post Inv-loop μ-loop
+  add-after-3 c =
+      let turn = c .before .before .before in
+      omega (arith, hours-few (able turn) (hi turn) (d turn) (turn .loop-test .taken))
 
-add-after-3 : (t : ℕ) → lts.Need-add-after-3 (told t) (at-turn t) search-full.Post Inv-loop μ-loop
-add-after-3 t c =
-    let turn = c .before .before .before in
-    omega (arith, hours-few _ _ _ _ _ _ (client t turn) _ (able t turn) (d t turn) (turn .loop-test .taken))
+  -- a bid that fits
+  module _ (c : lts.After-excess (told t) (at-turn t) search-full.Post Inv-loop μ-loop) where
+    abbrev tested : lts.After-guards-set (told t) (at-turn t) search-full.Post Inv-loop μ-loop
+    tested = c .before .before
 
--- the guards are clear, or not
-module _ (t : ℕ) (c : lts.After-guards-set (told t) (at-turn t) search-full.Post Inv-loop μ-loop) where
-  abbrev after : ℕ
-  after =
-      let turn = c .before .before .before .before in
-      start t turn .args .used + getD (start t turn .args .rows .now) (16 * first t turn + 2 * d t turn + 1) 0
+    abbrev turn : lts.In-loop (told t) (at-turn t) search-full.Post Inv-loop μ-loop
+    turn = tested .before .before .before .before
 
-  clear : c .guards-set .result ≡ 0 → eqb (bitAnd after 72058693566333184) 0 ≡ true
-  clear z = eq-eqb _ 0 (sym (c .guards-set .ensures .0) ∙ z)
+    abbrev after : ℕ
+    after = start turn .args .used + getD (start turn .args .rows .now) (asked-at (first turn) (d turn)) 0
 
-  unclear : (c .guards-set .result ≡ 0 → ⊥) → eqb (bitAnd after 72058693566333184) 0 ≡ false
-  unclear n = ne-eqb _ 0 (λ e. n (c .guards-set .ensures .0 ∙ e))
+    -- the search of the others
+    abbrev Rest-searchable : (ahead set : ℕ) → Type 0
+    Rest-searchable ahead set =
+        let a = start turn .args in Searchable ahead set after (c .excess .result) (a .rows .now) (a .values .now)
 
--- what is left may be searched
-module _ (t : ℕ) (c : lts.After-excess (told t) (at-turn t) search-full.Post Inv-loop μ-loop) where
-  abbrev tested : lts.After-guards-set (told t) (at-turn t) search-full.Post Inv-loop μ-loop
-  tested = c .before .before
+    abbrev Rest-searched : (set more : ℕ) → Type 0
+    Rest-searched set more = let a = start turn .args in Searched set after (c .excess .result) (a .rows .now) (a .values .now) more
 
-  abbrev turn : Turn t
-  turn = tested .before .before .before .before
+    later : Rest-searchable (start turn .args .ahead - 1) (parted turn .others .result)
+    later =
+        let few = top-few (able turn) (found turn) in
+        searchable-next (able turn) (hi turn) (d turn) (turn .loop-test .taken) (parted turn .others .ensures) _
+        (tested .guards-set .ensures .0) (c .before .if4 .taken) (omega (arith, c .excess .ensures, few)) (omega (arith, several turn))
 
-  abbrev begun : lts.Start (told t) (at-turn t) search-full.Post Inv-loop μ-loop
-  begun = start t turn
+    -- what they add
+    taken : (more : ℕ) → Rest-searched (parted turn .others .result) more
+        → let a = start turn .args in
+        Found (a .set) (first turn) (a .used) (a .floor) (a .rows .now) (a .values .now) (hi turn)
+        (getD (a .rows .now) (weight-at (first turn) (d turn)) 0 + more) (d turn + 1)
+    taken more s =
+        found-taken (found turn) (turn .loop-test .taken) (parted turn .others .ensures) _ (tested .guards-set .ensures .0)
+        (c .before .if4 .taken) (c .excess .ensures) s
 
-  -- the search of the others
-  abbrev Rest-searchable : (ahead set : ℕ) → Type 0
-  Rest-searchable ahead set = Searchable ahead set (after t tested) (c .excess .result) (begun .args .rows .now) (begun .args .values .now)
+  last-pair-requires-2 : lts.Need-last-pair-requires-2 (told t) (at-turn t) search-full.Post Inv-loop μ-loop
+  last-pair-requires-2 c κs =
+      let fits = c .before in
+      let two : start (turn fits) .args .ahead - 1 ≡ 2 = omega (arith, c .if5 .taken) in
+      subst (λ (x : ℕ). Rest-searchable fits x (parted (turn fits) .others .result)) two (later fits)
 
-  abbrev Rest-searched : (set more : ℕ) → Type 0
-  Rest-searched set more = Searched set (after t tested) (c .excess .result) (begun .args .rows .now) (begun .args .values .now) more
+  search-full-requires : lts.Need-search-full-requires (told t) (at-turn t) search-full.Post Inv-loop μ-loop
+  search-full-requires c κs =
+      let fits = c .before in
+      (omega (arith, start (turn fits) .pre .0, several (turn fits)), later fits)
 
-  later : Rest-searchable (begun .args .ahead - 1) (rest t turn)
-  later =
-      let top = top-few _ _ _ _ _ _ (client t turn) _ (able t turn) _ _ (found t turn) in
-      subst (λ (x : ℕ). Rest-searchable (begun .args .ahead - 1) x) (sym (parted t turn .others .ensures))
-      (searchable-next _ _ _ _ _ _ (client t turn) _ (able t turn) (d t turn) (turn .loop-test .taken) _
-      (omega (arith, several t turn)) (omega (arith, c .excess .ensures, top)) (clear t tested (c .before .if3 .taken)))
+  -- what the others add, whoever finds it
+  others-add : (c : lts.Joined5 (told t) (at-turn t) search-full.Post Inv-loop μ-loop)
+      → Rest-searched (c .before) (parted (turn (c .before)) .others .result) (c .if5 .more)
+  others-add c =
+      let Is = Rest-searched (c .before) (parted (turn (c .before)) .others .result) in
+      ⊎-elim (λ (if5, pair, e). subst Is (sym e) (pair .ensures)) (λ (if5, more, e). subst Is (sym e) (more .ensures)) (c .if5 .came)
 
-  -- a bid taken, with what the others add to it
-  taken : (more : ℕ) → Rest-searched (rest t turn) more
-      → Found (begun .args .set) (first t turn) (begun .args .used) (begun .args .floor) (begun .args .rows .now) (begun .args .values .now)
-      (client t turn) (getD (begun .args .rows .now) (16 * first t turn + 2 * d t turn) 0 + more) (d t turn + 1)
-  taken more s =
-      found-taken _ _ _ _ _ _ (client t turn) _ (d t turn) (turn .loop-test .taken) (c .excess .result) more _
-      (found t turn) (clear t tested (c .before .if3 .taken)) (c .excess .ensures)
-      (subst (λ (x : ℕ). Rest-searched x more) (parted t turn .others .ensures) s) refl
+  add-top : lts.Need-add-top (told t) (at-turn t) search-full.Post Inv-loop μ-loop
+  add-top c =
+      let fits = c .before .before in
+      omega (arith, top-few (able (turn fits)) (taken fits _ (others-add (c .before))))
 
-last-bid-requires-2 : (t : ℕ) → lts.Need-last-bid-requires-2 (told t) (at-turn t) search-full.Post Inv-loop μ-loop
-last-bid-requires-2 t c κs =
-    let found = c .before in
-    let one : begun t found .args .ahead - 1 ≡ 1 = omega (arith, c .if4 .taken) in
-    (begun t found .args .values .now, subst (λ (x : ℕ). Rest-searchable t found x (rest t (turn t found))) one (later t found))
+  loop-again : lts.Need-loop-again (told t) (at-turn t) search-full.Post Inv-loop μ-loop
+  loop-again c =
+      let here = c .before .before .before .before .before in (
+        hi here,
+        ⊎-elim
+            (λ (if4, excess, if5, known, e).
+            let fits : lts.After-excess (told t) (at-turn t) search-full.Post Inv-loop μ-loop
+            = record { before = record { before = c .before; if4 = if4 }; excess = excess } in
+            rw e (taken fits _ (others-add (record { before = fits; if5 = if5 }))))
+            (λ (if4, e). rw e (found-left (found here) (here .loop-test .taken) _ (c .before .guards-set .ensures .0) (if4 .left)))
+            (c .if4 .came),
+      )
 
-search-full-requires : (t : ℕ) → lts.Need-search-full-requires (told t) (at-turn t) search-full.Post Inv-loop μ-loop
-search-full-requires t c κs =
-    let found = c .before in
-    (omega (arith, start t (turn t found) .pre .0, several t (turn t found)), later t found)
-
--- what the others add, whoever finds it
-others-add : (t : ℕ) (c : lts.Joined4 (told t) (at-turn t) search-full.Post Inv-loop μ-loop)
-    → Rest-searched t (c .before) (rest t (turn t (c .before))) (c .if4 .more)
-others-add t c =
-    let Is = Rest-searched t (c .before) (rest t (turn t (c .before))) in
-    ⊎-elim (λ (if4, bid, e). subst Is (sym e) (bid .ensures _)) (λ (if4, more, e). subst Is (sym e) (more .ensures)) (c .if4 .came)
-
-add-top : (t : ℕ) → lts.Need-add-top (told t) (at-turn t) search-full.Post Inv-loop μ-loop
-add-top t c =
-    let found = c .before .before in
-    omega (
-      arith,
-      top-few _ _ _ _ _ _ (client t (turn t found)) _ (able t (turn t found)) _ _
-          (taken t found _ (others-add t (c .before))),
-    )
-
-loop-again : (t : ℕ) → lts.Need-loop-again (told t) (at-turn t) search-full.Post Inv-loop μ-loop
-loop-again t c =
-    let here = c .before .before .before .before .before in (
-      client t here,
-      ⊎-elim
-          (λ (if3, excess, if4, known, e).
-          let found : lts.After-excess (told t) (at-turn t) search-full.Post Inv-loop μ-loop
-          = record { before = record { before = c .before; if3 = if3 }; excess = excess } in
-          rw e (taken t found _ (others-add t (record { before = found; if4 = if4 }))))
-          (λ (if3, e). rw e
-          (found-left _ _ _ _ _ _ (client t here) _ (d t here) (here .loop-test .taken) (found t here) (unclear t (c .before) (if3 .left))))
-          (c .if3 .came),
-    )
-
-returns-3 : (t : ℕ) → lts.Need-returns-3 (told t) (at-turn t) search-full.Post Inv-loop μ-loop
-returns-3 t c = let inv = c .before .loop .inv in found-end _ _ _ _ _ _ (inv .0) _ _ (inv .1) (c .loop-test .left)
+  returns-4 : lts.Need-returns-4 (told t) (at-turn t) search-full.Post Inv-loop μ-loop
+  returns-4 c = found-end (c .before .loop .inv .1) (c .loop-test .left)
 
 pub +search-full-spec : {M : Type 1} → statement M
 +search-full-spec = close μ-search-full λ t. lts.spec (told t)
@@ -236,35 +212,37 @@ pub +search-full-spec : {M : Type 1} → statement M
     μ-loop
     (last-bid-requires t)
     (returns t)
+    (last-pair-requires t)
+    (λ c. c .last-pair .ensures)
     (first-requires t)
-    (λ c κs. c .first .ensures)
+    (others-requires t)
     (λ c. search needs)
-    (ceiling-place t)
+    (λ c. search needs)
     (λ c. omega (arith, c .before .before .first .ensures .high))
     (λ c. search needs)
     (λ c. omega (arith, c .before .before .first .ensures .high))
     (loop-holds t)
-    (λ c. omega (arith, client t c .high))
+    (λ c. omega (arith, hi t c .high))
     (λ c. omega (arith, near t c))
-    (λ c. omega (arith, client t c .high, near t c))
-    (λ c. omega (arith, client t c .high, near t c))
-    (λ c. omega (arith, client t c .high, near t c))
-    (add-if2 t)
-    (returns-2 t)
-    (λ c. omega (arith, client t (c .before .before) .high))
+    (λ c. omega (arith, hi t c .high, near t c))
+    (λ c. omega (arith, hi t c .high, near t c))
+    (λ c. omega (arith, hi t c .high, near t c))
+    (add-if3 t)
+    (returns-3 t)
+    (λ c. omega (arith, hi t (c .before .before) .high))
     (λ c. omega (arith, near t (c .before .before)))
-    (λ c. omega (arith, client t (c .before .before) .high, near t (c .before .before)))
-    (λ c. omega (arith, client t (c .before .before) .high, near t (c .before .before)))
-    (λ c. omega (arith, client t (c .before .before) .high, near t (c .before .before)))
-    (λ c. omega (arith, client t (c .before .before) .high, near t (c .before .before)))
+    (λ c. omega (arith, hi t (c .before .before) .high, near t (c .before .before)))
+    (λ c. omega (arith, hi t (c .before .before) .high, near t (c .before .before)))
+    (λ c. omega (arith, hi t (c .before .before) .high, near t (c .before .before)))
+    (λ c. omega (arith, hi t (c .before .before) .high, near t (c .before .before)))
     (add-after-3 t)
     (λ c κs. search needs)
     (λ c κs. search needs)
-    (last-bid-requires-2 t)
+    (last-pair-requires-2 t)
     (λ c. omega (arith, several t (turn t (c .before))))
     (search-full-requires t)
     (add-top t)
     (λ c. omega (arith, near t (c .before .before .before .before .before)))
     (λ c. omega (arith, c .before .before .before .before .before .loop-test .taken))
     (loop-again t)
-    (returns-3 t)
+    (returns-4 t)

@@ -14,7 +14,7 @@ use lib.ListN.{length, getD, set, length-replicate, length-set}
 use Rattle.winners.specs.ClientSets.{Within}
 use Rattle.winners.specs.Passes.{Values-to, Weighable, Passable}
 use Rattle.winners.specs.Taken.{Taken-to}
-use Rattle.winners.proofs.ClientSets.{and-within, within-and, others-less}
+use Rattle.winners.proofs.ClientSets.{and-within, within-and}
 use Rattle.winners.proofs.PassSteps.{values-first, values-next, value-left}
 use Rattle.winners.proofs.Taking.{room-few, others-room, set-room, taken-first, taken-next, taken-passed}
 use Rattle.winners.proofs.Trimming.{asked-few}
@@ -61,11 +61,11 @@ module _ (c : tie.After-others Inv-loop μ-loop) where
   within : Within set-at (start .args .held)
   within = and-within _ _ (le-antisymm (and-le-l set-at (start .args .held)) (omega (arith, c .before .before .if1 .left)))
 
-  smaller : c .others .result < set-at
-  smaller = omega (arith, c .others .ensures, others-less _ _ (c .before .first .ensures))
+  rest : c .others .result ≡ set-at - 2 ^ (c .before .first .result - 1)
+  rest = c .others .ensures .is _ (c .before .first .ensures)
 
 array-read-before : tie.Need-array-read-before Inv-loop μ-loop
-array-read-before c = omega (arith, smaller c, turn c .loop-test .taken)
+array-read-before c = omega (arith, c .others .ensures .fewer, turn c .loop-test .taken)
 
 element-copy-out-with-least : tie.Need-element-copy-out-with-least Inv-loop μ-loop
 element-copy-out-with-least c = omega (arith, c .before .first .ensures .high)
@@ -77,7 +77,7 @@ with-least-requires c κs =
     let p = start found .pre in
     let rooms = turn found .before .loop .inv .3 p .1 in
     let room = others-room _ _ _ _ _ _ (start found .args .leasts .now) (taken-to found) first (p .leasts) rooms (within found) in (
-      rw (found .others .ensures) (λ t. room-few _ _ _ _ room t),
+      rw (rest found) (λ t. room-few _ _ _ _ room t),
       asked-few _ _ _ (p .left .kinds-few) (p .leasts _ (first .low) (first .high)),
     )
 
@@ -96,7 +96,7 @@ module _ (c : tie.After-with-least Inv-loop μ-loop) where
       cond (eqb (bitAnd before 72058693566333184) 0) (before + getD (start found .args .leasts .now) first 0) before
 
   after : c .with-least .result ≡ used-after (set-at found - 2 ^ (first - 1))
-  after = subst (λ (x : ℕ). c .with-least .result ≡ used-after x) (found .others .ensures) (c .with-least .ensures)
+  after = subst (λ (x : ℕ). c .with-least .result ≡ used-after x) (rest found) (c .with-least .ensures)
 
   abbrev least-numbers : List ℕ
   least-numbers = start found .args .leasts .now
