@@ -1,5 +1,5 @@
--- Guards as tests: those that are set against none; and one lane, whose guard is tested apart from the lanes above it. Cited by
--- LaneSums.antt and by the proofs of src/full.rt and src/pass.rt. Assumes nothing.
+-- Whether a guard is set, as a test; and one lane, whose guard is tested apart from the lanes above it. Cited by LaneSums.antt and
+-- Searching.antt, and by the proof of pass::value_of. Assumes nothing.
 use mathlib.Core.Path.{_≡_, refl, sym, ap, _∙_}
 use mathlib.Core.Bool.{true, false, _&&_}
 use mathlib.Core.Logic.{_≢_, ⊎-elim}
@@ -11,12 +11,12 @@ use lib.Dec.{leb, eqb}
 use Rattle.market.proofs.Bools.{either}
 use Rattle.winners.specs.Lanes.{guards}
 
--- no guard is set, or one is, by the number of those that are
-pub guards-clear : (x r : ℕ) → r ≡ bitAnd x guards → r ≡ 0 → eqb (bitAnd x guards) 0 ≡ true
-guards-clear x r e z = eq-eqb (bitAnd x guards) 0 (sym e ∙ z)
+-- no guard of x is set, or one is; g is those that are
+pub guards-clear : (x g : ℕ) → g ≡ bitAnd x guards → g ≡ 0 → eqb (bitAnd x guards) 0 ≡ true
+guards-clear x g e z = eq-eqb (bitAnd x guards) 0 (sym e ∙ z)
 
-pub guards-some : (x r : ℕ) → r ≡ bitAnd x guards → r ≢ 0 → eqb (bitAnd x guards) 0 ≡ false
-guards-some x r e n = ne-eqb (bitAnd x guards) 0 (λ z. n (e ∙ z))
+pub guards-some : (x g : ℕ) → g ≡ bitAnd x guards → g ≢ 0 → eqb (bitAnd x guards) 0 ≡ false
+guards-some x g e n = ne-eqb (bitAnd x guards) 0 (λ z. n (e ∙ z))
 
 -- the low bits and the others are tested apart
 blocks : (k a b r s x y : ℕ) → r < 2 ^ k → s < 2 ^ k → x ≡ a * 2 ^ k + r → y ≡ b * 2 ^ k + s → bitAnd x y ≡ bitAnd a b * 2 ^ k + bitAnd r s

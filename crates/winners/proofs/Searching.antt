@@ -1,4 +1,4 @@
--- The steps of the search over a client's row: where it begins, a bid taken or left, and where it may end. Cited by the proof of
+-- The steps of the search over a client's row: where it begins, a bid taken or left, and where it may end. Cited by the proofs of
 -- src/full.rt. Assumes nothing.
 use mathlib.Core.Path.{_≡_, refl, sym, ap, subst, _∙_}
 use mathlib.Core.List.{List, [], _∷_}
@@ -88,7 +88,7 @@ module _ {set client used floor : ℕ} {rows values : List ℕ} {hi : First set 
         ∙ f .is m wt k ls h l c;
   }
 
-  -- a turn, at a bid of the row; g is the guards that are set once it is taken
+  -- a turn, at a bid of the row; g is the guards that are set once the bid is taken
   module _ {top d : ℕ} (f : Found set client used floor rows values hi top d) (inside : d < count-in rows client) where
     -- the row ends where no later bid can beat what is found
     pub found-falls : {rest : ℕ} → Others set rest → weight-in rows client d + getD values rest 0 ≤ top
@@ -118,7 +118,7 @@ module _ {set client used floor : ℕ} {rows values : List ℕ} {hi : First set 
     pub found-taken : {rest : ℕ} → Others set rest → (g : ℕ) → g ≡ bitAnd (used + hours-in rows client d) guards → g ≡ 0
         → {base more : ℕ} → base ≡ top - weight-in rows client d → Searched rest (used + hours-in rows client d) base rows values more
         → Found set client used floor rows values hi (weight-in rows client d + more) (d + 1)
-    found-taken {rest} o g e z {base} {more} eb s = record {
+    found-taken o g e z {base} {more} eb s = record {
       is = λ m wt k ls h l c.
           let weight = weight-in rows client d in
           let (row, r) = h client (hi .low) (hi .high) in
@@ -224,6 +224,6 @@ module _ {ahead set used floor : ℕ} {rows values : List ℕ} (w : Searchable a
     pub searchable-next : {rest : ℕ} → Others set rest → (g : ℕ) → g ≡ bitAnd (used + hours-in rows client d) guards → g ≡ 0
         → {base : ℕ} → base ≤ found-most → 2 ≤ ahead
         → Searchable (ahead - 1) rest (used + hours-in rows client d) base rows values
-    searchable-next {rest} o g e z {base} few more =
+    searchable-next o g e z {base} few more =
         subst (λ (x : ℕ). Searchable (ahead - 1) x (used + hours-in rows client d) base rows values) (sym (o .is client hi))
         (searchable-rest g e z base few more)

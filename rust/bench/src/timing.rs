@@ -9,6 +9,8 @@ use std::time::{Duration, Instant};
 const TURN: Duration = Duration::from_micros(400);
 /// What some rounds may take for each work.
 const BUDGET: Duration = Duration::from_millis(12);
+/// How often there are some rounds more where works are measured at one go.
+const TIMES: u32 = 12;
 
 /// A piece of work: done so many times, it gives the time that took.
 pub type Work<'a> = Box<dyn Fn(u32) -> Duration + 'a>;
@@ -49,7 +51,7 @@ pub struct Rounds(Vec<Vec<f64>>);
 impl Rounds {
     pub fn of(works: &[Work]) -> Rounds {
         let mut rounds = Rounds::default();
-        for _ in 0..3 {
+        for _ in 0..TIMES {
             rounds.go_on(works);
         }
         rounds

@@ -1,11 +1,12 @@
 -- `pass::value_of` meets its contract. Assumes nothing.
 use borrow.Author.Needs.{needs}
-use borrow.Author.Tests.{eq-eqb, ne-eqb}
 use mathlib.Core.Path.{_≡_}
-use mathlib.Core.Bool.{true, false}
+use mathlib.Core.Bool.{true}
 use native.Mathlib.Omega.{arith}
 use lib.Bits.{bitAnd}
 use lib.Dec.{eqb}
+use Rattle.winners.specs.Lanes.{guards}
+use Rattle.winners.proofs.Guard.{guards-clear, guards-some}
 use Rattle.winners.proofs.PassSteps.{value-floor, value-searched, value-searchable}
 use Rattle.winners.proofs.pass.value_of.Statement.{statement}
 use Rattle.winners.proofs.pass.value_of.Tie as tie
@@ -16,15 +17,13 @@ floor-of-requires c κs = c .pre .few
 returns : tie.Need-returns
 returns c =
     let floor = c .before .before .floor-of in
-    let guards = c .before .guards-set .ensures .0 in
-    let set : eqb (bitAnd (c .before .before .before .args .used) 72058693566333184) 0 ≡ false
-    = ne-eqb (bitAnd (c .before .before .before .args .used) 72058693566333184) 0 (λ e. omega (arith, c .if1 .taken, guards, e)) in
+    let set = guards-some (c .before .before .before .args .used) _ (c .before .guards-set .ensures .0)
+    (λ z. omega (arith, c .if1 .taken)) in
     λ w. value-floor _ _ _ _ w _ (floor .ensures .0) set
 
 -- the guards are clear
-clear : (c : tie.Else1) → eqb (bitAnd (c .before .before .before .args .used) 72058693566333184) 0 ≡ true
-clear c = eq-eqb (bitAnd (c .before .before .before .args .used) 72058693566333184) 0
-    (omega (arith, c .if1 .left, c .before .guards-set .ensures .0))
+clear : (c : tie.Else1) → eqb (bitAnd (c .before .before .before .args .used) guards) 0 ≡ true
+clear c = guards-clear (c .before .before .before .args .used) _ (c .before .guards-set .ensures .0) (omega (arith, c .if1 .left))
 
 search-full-requires : tie.Need-search-full-requires
 search-full-requires c κs =
