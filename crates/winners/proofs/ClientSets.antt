@@ -207,7 +207,7 @@ lowest-is zero s l u = absurd (omega arith)
 lowest-is (suc k) s l u =
     by-low s (trailingZeros k (s / 2)) (s % 2) refl (λ e. lowest-is k (s / 2) (omega arith) (omega (arith, pow-suc 2 k)))
 
--- one less has every bit above it as it was, and not the bit itself
+-- the number before s has the bits above the lowest as s has them, and not the lowest
 lowest-off : (j s : ℕ) → Lowest s j → bitAnd s (s - 1) ≡ s - 2 ^ j
 lowest-off zero s l =
     let odd : s % 2 ≡ 1 = eqb-true (s % 2) 1 (sym (has-low s) ∙ l .there) in
