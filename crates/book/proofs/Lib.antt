@@ -14,6 +14,7 @@ pub mod Lists
 pub mod AskedHours
 pub mod Tally
 pub mod ReservedHours
+pub mod PairedHours
 pub mod HeldTests
 pub mod Whole
 pub mod RoundTrip

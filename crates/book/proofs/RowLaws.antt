@@ -18,6 +18,17 @@ module _ {A : Type 0} where
   row-next zero i f l = absurd (omega arith)
   row-next (suc t) i f l = let e : suc t - 1 ≡ t = omega arith in rw e
 
+  -- the same past the first entry; a row of one, and of none
+  pub row-second : (t i : ℕ) (f : ℕ → A) → 1 < t → row (t - 1) (i + 1) f ≡ f (i + 1) ∷ row (t - 2) (i + 2) f
+  row-second t i f l =
+      let e : t - 1 - 1 ≡ t - 2 = omega arith in
+      let g : i + 1 + 1 ≡ i + 2 = omega arith in
+      rw (row-next (t - 1) (i + 1) f (omega arith), e, g)
+
+  pub row-one : (t i : ℕ) (f : ℕ → A) → t ≡ 1 → row t i f ≡ f i ∷ []
+  unfolding row
+  row-one t i f e = rw e
+
   pub row-none : (t i : ℕ) (f : ℕ → A) → t ≡ 0 → row t i f ≡ []
   unfolding row
   row-none t i f e = rw e

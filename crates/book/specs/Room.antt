@@ -1,10 +1,11 @@
 -- What the private functions ask of their callers and tell them: counts that a book's arrays have room for, bids that stand inside the
--- bytes, how many bids name a client, reserves of four hours, questions 4 and 5 in a row, and what is known of a book's bytes once its
--- tables are read. Cited by the contracts of src/ alone. Assumes nothing: these are definitions.
+-- bytes, how many bids name a client, reserves of four hours, the hours and the reserves of two bids in one number, questions 4 and 5 in a
+-- row, and what is known of a book's bytes once its tables are read. Cited by the contracts of src/ alone. Assumes nothing: these are
+-- definitions.
 use mathlib.Core.Path.{_≡_}
 use mathlib.Core.Bool.{true, _&&_, not, cond}
 use mathlib.Core.List.{List}
-use Prim.Native.Nat.{ℕ, _+_, _*_, _≤_}
+use Prim.Native.Nat.{ℕ, _+_, _*_, _/_, _%_, _≤_, _<_}
 use lib.Dec.{ltb, eqb}
 use lib.ListN.{length, getD}
 use Rattle.sets.specs.Tables.{tabulate}
@@ -43,6 +44,23 @@ first-of k rs = tabulate 4 (λ j. cond (ltb j k) (getD rs j 0) 0)
 abbrev pub products : (hours : List ℕ) → (at : ℕ) → (reserve : List ℕ) → ℕ
 products hs at rs =
     getD hs at 0 * getD rs 0 0 + getD hs (at + 1) 0 * getD rs 1 0 + getD hs (at + 2) 0 * getD rs 2 0 + getD hs (at + 3) 0 * getD rs 3 0
+
+-- what the second of two bids counts where the hours, or the reserves, of both are one number: 2^32
+abbrev pub second-bid : ℕ
+second-bid = 4294967296
+
+-- a number whose lowest four bytes, the lowest first, are the hours from a place on
+pub record Four-hours (hours : List ℕ) (at number : ℕ) : Type 0 where
+  pub first : number % 256 ≡ getD hours at 0
+  pub second : number / 256 % 256 ≡ getD hours (at + 1) 0
+  pub third : number / 65536 % 256 ≡ getD hours (at + 2) 0
+  pub fourth : number / 16777216 % 256 ≡ getD hours (at + 3) 0
+
+-- two numbers, each of three bytes, as one: that of a bid, and that of the bid after it
+pub record Both (first second number : ℕ) : Type 0 where
+  pub made : number ≡ first + second * second-bid
+  pub low : first < 16777216
+  pub high : second < 16777216
 
 -- how often a client stands among the first m entries
 unfoldable pub named : (client m : ℕ) → List ℕ → ℕ

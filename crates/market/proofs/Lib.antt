@@ -26,7 +26,8 @@ pub mod Restrict
 pub mod Fitted
 pub mod Kept
 pub mod Renumber
--- Clients as members: what they reach with fewer of them and with fewer hours, one member's row of bids, least hours, and the split.
+-- Clients as members: what they reach with fewer of them and with fewer hours, one member's row of bids, least hours, the split, and
+-- heaviest bids that fit together.
 pub mod Adding
 pub mod Reach
 pub mod ReachKept
@@ -37,5 +38,6 @@ pub mod Inserting
 pub mod LeastHours
 pub mod Trimmed
 pub mod Split
+pub mod Heaviest
 -- A market computed.
 pub mod Examples

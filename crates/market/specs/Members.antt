@@ -68,3 +68,11 @@ pub record Row-of (m : Market) (n c : ℕ) (row : List ℕ) : Type 0 where
 -- no bid of the row weighs more than the one before
 unfoldable pub Falling : (weight : ℕ → ℕ) → (row : List ℕ) → Type 0
 Falling wt row = (k : ℕ) → suc k < length row → wt (at row (suc k)) ≤ wt (at row k)
+
+-- bid i is client c's and may be taken, and none of c's that may be taken weighs more
+pub record Heaviest (m : Market) (wt : ℕ → ℕ) (c i : ℕ) : Type 0 where
+  pub low : 1 ≤ i
+  pub high : i ≤ m .bids
+  pub own : m .owner i ≡ c
+  pub eligible : m .may i ≡ true
+  pub most : (j : ℕ) → 1 ≤ j → j ≤ m .bids → m .owner j ≡ c → m .may j ≡ true → wt j ≤ wt i

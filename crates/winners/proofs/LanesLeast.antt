@@ -27,6 +27,15 @@ packed-less (x ∷ xs) (z ∷ zs) t =
     let (a, b) = and-eq-true-iff (leb z x) (fits zs xs) .0 t in
     omega (arith, leb-true z x a, packed-less xs zs b)
 
+-- and added again
+pub asked-whole : (k : ℕ) (xs zs : List ℕ) (a b : ℕ) → fits zs xs ≡ true → Bytes xs → Asked k (less xs zs) a → Asked k zs b
+    → Asked k xs (b + a)
+asked-whole k xs zs a b t bytes h g = record {
+  kinds = sym (less-length xs zs) ∙ h .kinds;
+  bytes = bytes;
+  packs = omega (arith, h .packs, g .packs, packed-less xs zs t);
+}
+
 pub asked-less : (k : ℕ) (xs zs : List ℕ) (a b : ℕ) → fits zs xs ≡ true → Asked k xs a → b ≡ packed zs → Asked k (less xs zs) (a - b)
 asked-less k xs zs a b t h e = record {
   kinds = less-length xs zs ∙ h .kinds;

@@ -21,6 +21,7 @@ pub mod LaneSums
 pub mod LanesPacked
 pub mod Owners
 pub mod PassSteps
+pub mod SetAfterSet
 pub mod Picks
 pub mod Refusals
 pub mod Rising

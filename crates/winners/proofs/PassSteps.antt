@@ -1,4 +1,4 @@
--- The steps of the pass over sets: a set's floor, clients without a bid, and its value by the split. Cited by the proofs of src/pass.rt.
+-- The steps of the pass over sets: a set's floor, and its value by its clients' heads or by the split. Cited by the proofs of src/pass.rt.
 -- Assumes nothing.
 use mathlib.Core.Path.{_≡_, refl, sym, ap, ap₂, fun-ext, _∙_}
 use mathlib.Core.Bool.{Bool, true, false, cond, true≢false}
@@ -7,27 +7,31 @@ use mathlib.Core.Logic.{_⊎_, inl, inr, ⊎-elim}
 use Prim.Native.Nat.{ℕ, suc, _+_, _-_, _*_, _^_, _≤_, _<_, max}
 use native.Mathlib.Decide.{ℕ-discrete}
 use native.Mathlib.Omega.{arith}
-use lib.Bits.{bitAnd, and-zero-r}
+use lib.Bits.{bitAnd}
 use lib.Dec.{eqb, leb, ltb}
-use lib.ListN.{length, getD, set, replicate, length-replicate}
+use lib.ListN.{length, getD}
 use borrow.Author.Tests.{leb-true, leb-false, ltb-true, ltb-false}
 use lib.Pow.{pow-pos, pow-mono}
 use Rattle.sets.specs.Sets.{has, set-of}
 use Rattle.sets.proofs.Members.{has-zero, set-of-lt}
-use Rattle.sets.proofs.Filled.{filled-next, zeros-at}
 use Rattle.market.specs.Market.{Market, fits, less}
-use Rattle.market.specs.Members.{more, reach, leasts, trimmed, without}
+use Rattle.market.specs.Members.{more, reach, leasts, trimmed, without, Heaviest}
 use Rattle.market.proofs.Bools.{either}
 use Rattle.market.proofs.Adding.{more-length, more-at, fits-length}
 use Rattle.market.proofs.Hours.{fits-at, fits-if}
 use Rattle.market.proofs.Choose.{choose-attained}
 use Rattle.market.proofs.Trimmed.{full-reaches}
 use Rattle.market.proofs.Split.{split-value, split-floor}
-use Rattle.winners.specs.ClientSets.{clients-in, First, Within}
-use Rattle.winners.specs.Full.{Tail, one, next, Ceilings, Searchable, Searched}
-use Rattle.winners.specs.Passes.{Floor-past, Idle-but, Values-to, Weighable}
-use Rattle.winners.proofs.ClientSets.{clients-none, clients-first, clients-without, clients-few, some-client, others-less}
-use Rattle.winners.proofs.ClientSets.{fewer-within, gone-alone, has-there, reach-held, reach-fewer}
+use Rattle.market.proofs.Each.{each-if}
+use Rattle.market.proofs.Members.{members-at}
+use Rattle.market.proofs.Heaviest.{heaviest-first}
+use Rattle.winners.specs.ClientSets.{clients-in, First, Others, Within}
+use Rattle.winners.specs.Full.{weight-most, Tail, one, next, Ceilings, Searchable, Searched}
+use Rattle.winners.specs.Lanes.{guards}
+use Rattle.winners.specs.Passes.{Floor-past, Weighable}
+use Rattle.winners.specs.Rows.{first-weight-at}
+use Rattle.winners.proofs.ClientSets.{clients-first, clients-without, clients-few, some-client, others-less}
+use Rattle.winners.proofs.ClientSets.{fewer-within, gone-alone, has-there, reach-fewer}
 use Rattle.winners.proofs.Taking.{more-fits}
 
 -- A SET'S FLOOR, one client left out after another
@@ -117,14 +121,8 @@ tail-room : (least : ℕ → List ℕ) {s r : ℕ} → Tail s r → (ys ls : Lis
 tail-room least (one {s = s} {c = t} h) ys ls f = first-room least s t h ys ls f
 tail-room least (next {s = s} {c = t} h tail) ys ls f = tail-room least tail ys ls (first-room least s t h ys ls f)
 
--- CLIENTS WITHOUT A BID are left out
-pub value-left : (m : Market) (wt : ℕ → ℕ) (supply : List ℕ) (held set some : ℕ) (values : List ℕ) → Idle-but m held
-    → Values-to m wt supply set values → some ≡ bitAnd set held → some < set → getD values some 0 ≡ reach m wt (clients-in set) supply
-value-left m wt supply held set some values idle known e l =
-    known .below some l ∙ ap (λ (s : ℕ). reach m wt (clients-in s) supply) e ∙ sym (reach-held m wt held idle set supply)
-
 -- THE VALUE OF A SET
-module _ (set used : ℕ) (rows values : List ℕ) (w : Weighable set used rows values) where
+module _ (set used heads : ℕ) (rows values : List ℕ) (w : Weighable set used heads rows values) where
   abbrev m : Market
   m = w .sale .m
 
@@ -152,6 +150,23 @@ module _ (set used : ℕ) (rows values : List ℕ) (w : Weighable set used rows 
       (λ (y : ltb r set ≡ true). rw (w .known .below r (ltb-true r set y)) (reach-few m wt (w .sale .laid .weights-few) r supply))
       (λ (z : ltb r set ≡ false). omega (arith, w .known .above r (ltb-false r set z)))
       (either (ltb r set))
+
+  -- where the heaviest bids fit together, the first client's weight and what the others reach
+  pub value-together : {c : ℕ} → First set c → {others : ℕ} → Others set others → eqb (bitAnd heads guards) 0 ≡ true
+      → getD rows (first-weight-at c) 0 + getD values others 0 ≡ reach m wt (clients-in set) supply
+  value-together {c} f o y =
+      let rest = set - 2 ^ (c - 1) in
+      let first = clients-first set c f in
+      let heavy = each-if (λ d. Heaviest m wt d (w .sale .head d)) (clients-in set)
+      (λ k l. let (low, high, on) = members-at (λ d. has set (d - 1)) 6 1 k l in w .headed _ low (omega arith) on .heaviest) in
+      ap₂ (λ (a b : ℕ). a + b) (w .headed c (f .low) (f .high) (f .there) .weighs)
+      (rw (o .is c f) (w .known .below rest (others-less set c f)))
+      ∙ sym (heaviest-first m wt (w .sale .head) c (clients-in rest) supply (rw first at heavy)
+      (rw first at (sym (w .heads-room .clear) ∙ y)))
+      ∙ (rw first)
+
+  pub weight-few : {c : ℕ} → First set c → getD rows (first-weight-at c) 0 ≤ weight-most
+  weight-few {c} f = rw (w .headed c (f .low) (f .high) (f .there) .weighs) (w .sale .laid .weights-few _)
 
   module _ (floor : ℕ) (f : Floor-past 0 set values floor) where
     covers : (d : ℕ) → d < length (clients-in set) → reach m wt (without d (clients-in set)) supply ≤ floor
@@ -203,29 +218,3 @@ module _ (set used : ℕ) (rows values : List ℕ) (w : Weighable set used rows 
             values-few = values-few;
             floor-few = omega (arith, reached, reach-few m wt (w .sale .laid .weights-few) set supply);
           }
-
--- SET AFTER SET
-pub values-first : (m : Market) (wt : ℕ → ℕ) (supply : List ℕ) → Values-to m wt supply 1 (replicate 64 0)
-unfolding reach
-values-first m wt supply = record {
-  long = length-replicate {A = ℕ} 64 0;
-  below = λ s l. let z : s ≡ 0 = omega arith in rw (z, zeros-at 64 0, clients-none);
-  above = λ s l. zeros-at 64 s;
-}
-
-pub values-next : (m : Market) (wt : ℕ → ℕ) (supply : List ℕ) (n v : ℕ) (values : List ℕ) → n < 64
-    → v ≡ reach m wt (clients-in n) supply → Values-to m wt supply n values → Values-to m wt supply (n + 1) (set values n v)
-values-next m wt supply n v values l e h =
-    let next = filled-next 64 (λ s. reach m wt (clients-in s) supply) n values v l e
-    (record { long = h .long; below = h .below; above = h .above }) in
-    record { long = next .long; below = next .below; above = next .above }
-
--- where nobody has a bid, every value is 0
-pub values-none : (m : Market) (wt : ℕ → ℕ) (supply : List ℕ) (held : ℕ) → held ≡ 0 → Idle-but m held
-    → Values-to m wt supply 64 (replicate 64 0)
-unfolding reach
-values-none m wt supply held z idle = record {
-  long = length-replicate {A = ℕ} 64 0;
-  below = λ s l. zeros-at 64 s ∙ sym (reach-held m wt held idle s supply ∙ (rw (z, and-zero-r s, clients-none)));
-  above = λ s l. zeros-at 64 s;
-}

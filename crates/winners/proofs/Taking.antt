@@ -1,5 +1,5 @@
--- Least hours added up from set to set: whether those of one client more fit the supply, and what they leave. Cited by the proofs of
--- src/pass.rt. Assumes nothing.
+-- Hours of clients added up from set to set, as their least hours: whether those of one client more fit the supply, and what they leave.
+-- Cited by the proofs of src/pass.rt. Assumes nothing.
 use mathlib.Core.Path.{_≡_, refl, sym, ap, _∙_}
 use mathlib.Core.Bool.{true, false, cond, true≢false}
 use mathlib.Core.List.{List, [], _∷_}
@@ -17,9 +17,10 @@ use Rattle.market.specs.Members.{more, leasts}
 use Rattle.market.proofs.Bools.{either}
 use Rattle.market.proofs.Hours.{less-length, less-at, fits-at, fits-if}
 use Rattle.market.proofs.Adding.{more-length, more-at, fits-length}
-use Rattle.winners.specs.ClientSets.{clients-in, First, Within}
-use Rattle.winners.specs.Lanes.{packed, Asked, Left}
-use Rattle.winners.specs.Taken.{Room, Leasts-held, Taken-to}
+use Rattle.market.proofs.Heaviest.{others-fit}
+use Rattle.winners.specs.ClientSets.{clients-in, First, Others, Within}
+use Rattle.winners.specs.Lanes.{packed, guards, lanes-full, Asked, Left}
+use Rattle.winners.specs.Taken.{Room, Taken-to}
 use Rattle.winners.proofs.ClientSets.{clients-none, clients-first, others-less, fewer-within}
 use Rattle.winners.proofs.LaneSums.{fit-says, used-most}
 use Rattle.winners.proofs.LanesLeft.{fit-here, left-after}
@@ -30,11 +31,6 @@ ruleset kinds = (more-length, less-length)
 
 -- HOURS ONE AFTER THE OTHER
 module _ (xs hs ls : List ℕ) where
-  -- what fits together fits by itself
-  more-second : fits (more xs hs) ls ≡ true → fits hs ls ≡ true
-  more-second t =
-      fits-if hs ls (omega (arith, simp kinds at (fits-length _ _ t))) (λ k l. omega (arith, simp by-kind at (fits-at _ _ t k)))
-
   pub more-fits : fits hs ls ≡ true → fits xs (less ls hs) ≡ fits (more xs hs) ls
   more-fits t =
       ⊎-elim
@@ -66,18 +62,18 @@ room-none k supply used h = record {
   left = λ _. rw (less-none supply) h;
 }
 
--- the least hours of one client more
-room-next : (k : ℕ) (supply xs hs : List ℕ) (before least after : ℕ) → Asked k xs least
-    → after ≡ cond (eqb (bitAnd before 72058693566333184) 0) (before + least) before → Room k supply hs before
+-- the hours of one client more
+room-next : (k : ℕ) (supply xs hs : List ℕ) (before number after : ℕ) → Asked k xs number
+    → after ≡ cond (eqb (bitAnd before 72058693566333184) 0) (before + number) before → Room k supply hs before
     → Room k supply (more xs hs) after
-room-next k supply xs hs before least after a e r =
+room-next k supply xs hs before number after a e r =
     ⊎-elim
     (λ (y : fits hs supply ≡ true). let left = r .left y in
-    let now : after ≡ before + least = e ∙ (rw (r .clear, y)) in
+    let now : after ≡ before + number = e ∙ (rw (r .clear, y)) in
     let same = more-fits xs hs supply y in
     rw now (record {
-      clear = fit-here k xs (less supply hs) least before a left ∙ same;
-      left = λ t. rw (more-less xs hs supply) (left-after k xs (less supply hs) least before a left (same ∙ t));
+      clear = fit-here k xs (less supply hs) number before a left ∙ same;
+      left = λ t. rw (more-less xs hs supply) (left-after k xs (less supply hs) number before a left (same ∙ t));
     }))
     (λ (n : fits hs supply ≡ false). let now : after ≡ before = e ∙ (rw (r .clear, n)) in
     let none : fits (more xs hs) supply ≡ false = never n in
@@ -86,11 +82,11 @@ room-next k supply xs hs before least after a e r =
   where
     never : fits hs supply ≡ false → fits (more xs hs) supply ≡ false
     never n =
-        ⊎-elim (λ (z : fits (more xs hs) supply ≡ true). absurd (true≢false (sym (more-second xs hs supply z) ∙ n)))
+        ⊎-elim (λ (z : fits (more xs hs) supply ≡ true). absurd (true≢false (sym (others-fit xs hs supply z) ∙ n)))
         (λ (z : fits (more xs hs) supply ≡ false). z) (either (fits (more xs hs) supply))
 
 -- where the guards are clear the number is in lanes
-pub room-few : (k : ℕ) (supply hs : List ℕ) (x : ℕ) → Room k supply hs x → eqb (bitAnd x 72058693566333184) 0 ≡ true → x ≤ 71777214294589695
+room-few : (k : ℕ) (supply hs : List ℕ) (x : ℕ) → Room k supply hs x → eqb (bitAnd x 72058693566333184) 0 ≡ true → x ≤ 71777214294589695
 room-few k supply hs x r t = omega (arith, r .left (sym (r .clear) ∙ t) .lanes, used-most (less supply hs))
 
 -- SET AFTER SET
@@ -101,17 +97,19 @@ module _ (k : ℕ) (supply : List ℕ) (least : ℕ → List ℕ) (held : ℕ) w
       let z : s ≡ 0 = omega arith in
       rw (z, getD-replicate {A = ℕ} 64 0 used 0 (omega arith), clients-none) (room-none k supply used h)
 
-  -- one set more, of the least hours of its first client and of the others'
-  module _ (s c : ℕ) (numbers xs : List ℕ) (f : First s c) (a : Leasts-held k least numbers) (t : Taken-to k supply least held s xs) where
-    pub others-room : Within s held → Room k supply (leasts least (clients-in (s - 2 ^ (c - 1)))) (getD xs (s - 2 ^ (c - 1)) 0)
-    others-room w = t (s - 2 ^ (c - 1)) (others-less s c f) (λ j h. w j (fewer-within s (c - 1) (f .there) j h))
+  -- one set more, of the hours of its first client, which a number holds, and of the others'
+  module _ {s c r : ℕ} (xs : List ℕ) (f : First s c) (o : Others s r) (w : Within s held) (t : Taken-to k supply least held s xs) where
+    others-room : Room k supply (leasts least (clients-in (s - 2 ^ (c - 1)))) (getD xs r 0)
+    others-room = rw (o .is c f) (t (s - 2 ^ (c - 1)) (others-less s c f) (λ j h. w j (fewer-within s (c - 1) (f .there) j h)))
 
-    module _ (after : ℕ) (w : Within s held)
-        (e : after ≡ cond (eqb (bitAnd (getD xs (s - 2 ^ (c - 1)) 0) 72058693566333184) 0)
-        (getD xs (s - 2 ^ (c - 1)) 0 + getD numbers c 0) (getD xs (s - 2 ^ (c - 1)) 0)) where
+    pub others-few : eqb (bitAnd (getD xs r 0) guards) 0 ≡ true → getD xs r 0 ≤ lanes-full
+    others-few y = room-few k supply _ _ others-room y
+
+    module _ {number after : ℕ} (a : Asked k (least c) number)
+        (e : after ≡ cond (eqb (bitAnd (getD xs r 0) guards) 0) (getD xs r 0 + number) (getD xs r 0)) where
       pub set-room : Room k supply (leasts least (clients-in s)) after
       unfolding leasts
-      set-room = rw (clients-first s c f) (room-next k supply (least c) _ _ _ after (a c (f .low) (f .high)) e (others-room w))
+      set-room = rw (clients-first s c f) (room-next k supply (least c) _ _ _ after a e others-room)
 
       pub taken-next : s < length xs → Taken-to k supply least held (s + 1) (set xs s after)
       taken-next l j b v = elim (ℕ-discrete j s) [

@@ -1,5 +1,5 @@
--- The hours that the least hours of a set's clients take, for each set. Cited by what private functions ask and answer. Assumes nothing:
--- these are definitions.
+-- The hours that a set's clients take, for each set: their least hours, or in their place those of their heaviest bids. Cited by what
+-- private functions ask and answer. Assumes nothing: these are definitions.
 use mathlib.Core.Path.{_≡_}
 use mathlib.Core.Bool.{true}
 use mathlib.Core.List.{List}
@@ -21,7 +21,7 @@ pub record Room (k : ℕ) (supply hours : List ℕ) (number : ℕ) : Type 0 wher
 abbrev pub Leasts-held : (k : ℕ) → (least : ℕ → List ℕ) → (numbers : List ℕ) → Type 0
 Leasts-held k least xs = (c : ℕ) → 1 ≤ c → c ≤ 6 → Asked k (least c) (getD xs c 0)
 
--- for each set below n of clients of one set, whether its clients' least hours fit the supply, and what they leave
+-- for each set below n of clients of one set, whether its clients' hours fit the supply, and what they leave
 abbrev pub Taken-to : (k : ℕ) (supply : List ℕ) (least : ℕ → List ℕ) (held n : ℕ) (taken : List ℕ) → Type 0
 Taken-to k supply least held n xs =
     (set : ℕ) → set < n → Within set held → Room k supply (leasts least (clients-in set)) (getD xs set 0)

@@ -1,10 +1,13 @@
 // The pass over all sets of clients, from few clients to many. A set's value is the larger of its floor, which is the largest value without
-// one of its clients, and of its best combination where nobody passes.
+// one of its clients, and of its best combination where nobody passes. Where its clients' heaviest bids fit together, they are that, and
+// nothing is searched.
 use crate::client_sets;
 use crate::full;
 use crate::lanes;
 use crate::places::CLIENTS;
 use crate::places::COUNTS;
+use crate::places::HOURS;
+use crate::places::ROW;
 use crate::places::ROWS;
 use crate::places::ROWS_END;
 use crate::places::SETS;
@@ -61,11 +64,15 @@ fn held_in(rows: &[u64; ROWS_END]) -> usize
     held as usize
 }
 
-// The value of a set whose clients' least hours take `used`.
-fn value_of(set: usize, used: u64, rows: &[u64; ROWS_END], values: &[u64; SETS]) -> u64
-    requires { ⌜ Weighable set used (now rows) (now values) ⌝ }
-    ensures { λ r. ⌜ Set-weighed set used (now (rows .entry)) (now (values .entry)) r ⌝ }
+// The value of a set. Its clients' least hours take `used`, and their heads, which are the first and heaviest bids of their rows, `heads`.
+fn value_of(set: usize, used: u64, heads: u64, rows: &[u64; ROWS_END], values: &[u64; SETS]) -> u64
+    requires { ⌜ Weighable set used heads (now rows) (now values) ⌝ }
+    ensures { λ r. ⌜ Set-weighed set used heads (now (rows .entry)) (now (values .entry)) r ⌝ }
 {
+    if lanes::guards_set(heads) == 0 {
+        let first = client_sets::first(set);
+        return rows[ROW * first] + values[client_sets::others(set)];
+    }
     let floor = floor_of(set, values);
     if 0 < lanes::guards_set(used) {
         return floor.value;
@@ -73,13 +80,15 @@ fn value_of(set: usize, used: u64, rows: &[u64; ROWS_END], values: &[u64; SETS])
     full::search_full(floor.clients, set, used, floor.value, rows, values)
 }
 
-// The values of all sets. Clients without a bid are left out, and for the others the least hours are added up from set to set.
+// The values of all sets. Clients without a bid are left out, and for the others the least hours and the hours of heads are added up from
+// set to set.
 fn weigh_sets(held: usize, used: u64, rows: &[u64; ROWS_END], leasts: &[u64; ROWS]) -> [u64; SETS]
     requires { ⌜ Passable held used (now rows) (now leasts) ⌝ }
     ensures { λ r. ⌜ Sets-weighed held used (now (rows .entry)) (now (leasts .entry)) r ⌝ }
 {
     let mut values = [0u64; SETS];
     let mut taken = [used; SETS];
+    let mut heads = [used; SETS];
     let mut set: usize = 1;
     while set < SETS {
         let some = set & held;
@@ -88,10 +97,13 @@ fn weigh_sets(held: usize, used: u64, rows: &[u64; ROWS_END], leasts: &[u64; ROW
             values[set] = value;
         } else {
             let first = client_sets::first(set);
-            let before = taken[client_sets::others(set)];
-            let after = taken::with_least(before, leasts[first]);
+            let rest = client_sets::others(set);
+            let least = leasts[first];
+            let after = taken::with_hours(taken[rest], least);
             taken[set] = after;
-            let value = value_of(set, after, rows, &values);
+            let head = taken::with_hours(heads[rest], least + rows[ROW * first + HOURS]);
+            heads[set] = head;
+            let value = value_of(set, after, head, rows, &values);
             values[set] = value;
         }
         set += 1;

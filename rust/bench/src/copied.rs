@@ -22,13 +22,17 @@ fn kept_in(book: &Book, discard: u8) -> u8 {
     (1..7).rev().fold(0, |kept, c| u8::from(book.stays(c, discard)) + 2 * kept)
 }
 
-/// The place for a weight in a row that falls.
-fn place_for(client: usize, weight: u64, count: usize, rows: &Rows) -> usize {
+/// Opens the place for a weight in a row that falls.
+fn open_place(client: usize, weight: u64, count: usize, rows: &mut Rows) -> usize {
     let mut d = count;
     while 0 < d {
-        if weight <= rows[ROW * client + BID * (d - 1)] {
+        let q = ROW * client + BID * d;
+        let prior = rows[q - BID];
+        if weight <= prior {
             return d;
         }
+        rows[q] = prior;
+        rows[q + HOURS] = rows[q - BID + HOURS];
         d -= 1;
     }
     0
@@ -36,12 +40,7 @@ fn place_for(client: usize, weight: u64, count: usize, rows: &Rows) -> usize {
 
 fn insert(client: usize, weight: u64, hours: u64, rows: &mut Rows) {
     let count = rows[COUNTS + client] as usize;
-    let d = place_for(client, weight, count, rows);
-    for e in (d + 1..=count).rev() {
-        let q = ROW * client + BID * e;
-        rows[q] = rows[q - BID];
-        rows[q + HOURS] = rows[q - BID + HOURS];
-    }
+    let d = open_place(client, weight, count, rows);
     let q = ROW * client + BID * d;
     rows[q] = weight;
     rows[q + HOURS] = hours;
@@ -81,9 +80,9 @@ fn settle(client: usize, rows: &mut Rows) -> u64 {
     less
 }
 
-/// One client's least hours more.
-fn with_least(before: u64, least: u64) -> u64 {
-    if fits(before) { before + least } else { before }
+/// One client's hours more.
+fn with_hours(before: u64, hours: u64) -> u64 {
+    if fits(before) { before + hours } else { before }
 }
 
 fn first(set: usize) -> usize {
@@ -186,7 +185,10 @@ fn floor_of(set: usize, values: &Values) -> Floor {
     Floor { value, clients }
 }
 
-fn value_of(set: usize, used: u64, rows: &Rows, values: &Values) -> u64 {
+fn value_of(set: usize, used: u64, heads: u64, rows: &Rows, values: &Values) -> u64 {
+    if fits(heads) {
+        return rows[ROW * first(set)] + values[others(set)];
+    }
     let floor = floor_of(set, values);
     if !fits(used) {
         return floor.value;
@@ -197,14 +199,18 @@ fn value_of(set: usize, used: u64, rows: &Rows, values: &Values) -> u64 {
 fn weigh_sets(held: usize, used: u64, rows: &Rows, leasts: &[u64; 7]) -> Values {
     let mut values = [0; 64];
     let mut taken = [used; 64];
+    let mut heads = [used; 64];
     for set in 1..64 {
         let some = set & held;
         if some < set {
             values[set] = values[some];
         } else {
             let first = first(set);
-            taken[set] = with_least(taken[others(set)], leasts[first]);
-            values[set] = value_of(set, taken[set], rows, &values);
+            let rest = others(set);
+            let least = leasts[first];
+            taken[set] = with_hours(taken[rest], least);
+            heads[set] = with_hours(heads[rest], least + rows[ROW * first + HOURS]);
+            values[set] = value_of(set, taken[set], heads[set], rows, &values);
         }
     }
     values

@@ -52,10 +52,10 @@ fn pair(rows: &[Row; 6], values: &[u64; SETS], set: usize, used: u64, floor: u64
 }
 
 /// The value of the best combination with a bid of each client of a set, or the floor where that is no less. The value of the clients still
-/// to come is a ceiling. Where the last two clients are apart, they are searched without a further call, as in ours.
-fn search<const APART: bool>(rows: &[Row; 6], values: &[u64; SETS], set: usize, used: u64, floor: u64) -> u64 {
+/// to come is a ceiling. With short cuts the last two clients are searched without a further call, as in ours.
+fn search<const CUTS: bool>(rows: &[Row; 6], values: &[u64; SETS], set: usize, used: u64, floor: u64) -> u64 {
     let (client, rest) = split(set);
-    if APART && rest.is_power_of_two() {
+    if CUTS && rest.is_power_of_two() {
         return pair(rows, values, set, used, floor);
     }
     let ceiling = values[rest];
@@ -70,10 +70,10 @@ fn search<const APART: bool>(rows: &[Row; 6], values: &[u64; SETS], set: usize, 
                 return bid.weight;
             }
             let base = top.saturating_sub(bid.weight);
-            let more = if APART && split(rest).1.is_power_of_two() {
+            let more = if CUTS && split(rest).1.is_power_of_two() {
                 pair(rows, values, rest, after, base)
             } else {
-                search::<APART>(rows, values, rest, after, base)
+                search::<CUTS>(rows, values, rest, after, base)
             };
             top = bid.weight + more;
         }
@@ -90,22 +90,33 @@ impl Values {
     }
 }
 
-/// The values with clients discarded for good. Clients without a bid that can be taken are left out.
-pub fn values_by<const APART: bool>(book: &Book, discard: u8) -> Values {
+/// The values with clients discarded for good. Clients without a bid that can be taken are left out. With short cuts no set is searched
+/// whose clients' heaviest bids fit together, as in ours.
+pub fn values_by<const CUTS: bool>(book: &Book, discard: u8) -> Values {
     let used = used(book.supply);
     let rows = rows(book, used, discard);
     let held = (0..6).fold(0, |set, client| set | usize::from(!rows[client].bids().is_empty()) << client);
     let mut values = [0; SETS];
     let mut taken = [used; SETS];
+    let mut heads = [used; SETS];
     for set in 1..SETS {
         if set & held < set {
             values[set] = values[set & held];
             continue;
         }
         let (client, rest) = split(set);
-        taken[set] = taken[rest] + if fits(taken[rest]) { rows[client].least } else { 0 };
+        let least = rows[client].least;
+        taken[set] = taken[rest] + if fits(taken[rest]) { least } else { 0 };
+        if CUTS {
+            let heaviest = rows[client].bids()[0];
+            heads[set] = heads[rest] + if fits(heads[rest]) { least + heaviest.hours } else { 0 };
+            if fits(heads[set]) {
+                values[set] = heaviest.weight + values[rest];
+                continue;
+            }
+        }
         let floor = floor_of(set, &values);
-        values[set] = if fits(taken[set]) { search::<APART>(&rows, &values, set, taken[set], floor) } else { floor };
+        values[set] = if fits(taken[set]) { search::<CUTS>(&rows, &values, set, taken[set], floor) } else { floor };
     }
     Values(values)
 }
@@ -122,8 +133,8 @@ pub fn greatest(book: &Book, discard: u8) -> u64 {
 
 /// The answer that ours gives, handed out as ours is: by a call.
 #[inline(never)]
-pub fn surpluses<const APART: bool>(book: &Book) -> Surpluses {
-    let values = values_by::<APART>(book, 0);
+pub fn surpluses<const CUTS: bool>(book: &Book) -> Surpluses {
+    let values = values_by::<CUTS>(book, 0);
     Surpluses::of(std::array::from_fn(|discard| values.without(discard as u8)))
 }
 

@@ -31,8 +31,8 @@ pub fn asked(book: &[u8]) -> u64 {
     book::read(black_box(book)).map_or(0, |book| search::surpluses::<false>(&book).sum())
 }
 
-/// The same with the last two clients apart.
-pub fn asked_apart(book: &[u8]) -> u64 {
+/// The same with the short cuts of ours.
+pub fn asked_cut_short(book: &[u8]) -> u64 {
     book::read(black_box(book)).map_or(0, |book| search::surpluses::<true>(&book).sum())
 }
 
@@ -92,7 +92,7 @@ const WAYS: &[Way] = &[
     |given| ours_one_by_one(&given.bytes),
     |given| asked_one_by_one(&given.bytes),
     |given| old_asked_one_by_one(&given.bytes),
-    |given| asked_apart(&given.bytes),
+    |given| asked_cut_short(&given.bytes),
 ];
 const SLOW: &[Way] = &[OURS, |given| plainly(&given.book), |given| by_branch(&given.book)];
 
@@ -138,21 +138,21 @@ impl Measured {
 
     fn print(&self) {
         let [plain, branch] = [1, 2].map(|other| self.rounds_of_few.ratio(0, other));
-        let [search, asked, apart, old, copied] = [1, 2, 8, 3, 4].map(|other| self.rounds_of_many.ratio(0, other));
+        let [search, asked, cut_short, old, copied] = [1, 2, 8, 3, 4].map(|other| self.rounds_of_many.ratio(0, other));
         let [single, single_old] = [6, 7].map(|other| self.rounds_of_many.ratio(5, other));
         print!("{:22}{plain:>10.4}{branch:>8.2}{old:>8.2}", self.kind.name);
-        println!("{search:>8.2}{asked:>8.2}{apart:>8.2}{copied:>14.2}{single_old:>10.2}{single:>8.2}");
+        println!("{search:>8.2}{asked:>8.2}{cut_short:>8.2}{copied:>14.2}{single_old:>10.2}{single:>8.2}");
     }
 }
 
 pub fn table() {
     println!("All 64 greatest values of full books, a book at a call: our time over that in Rust of the plain recursion, of a branch");
-    println!("and bound, of the old search, of the same search, without questions, asked, and asked with the last two clients apart,");
+    println!("and bound, of the old search, of the same search, without questions, asked, and asked with the short cuts that ours has,");
     println!("and of ours put into Rust line by line; and of one value at a call, over the old search and over the same search. But for the");
     println!("first two, and the same search once, all read the book and put questions 1 to 5 at each call, as ours does.");
     println!();
     println!("{:22}{:>10}{:>8}{:>8}{:>24}{:>14}{:>18}", "", "", "", "", "the same search", "", "one by one");
-    let [a, b, c, d, e, f, g] = ["plain", "branch", "old", "", "asked", "apart", "line by line"];
+    let [a, b, c, d, e, f, g] = ["plain", "branch", "old", "", "asked", "cuts", "line by line"];
     println!("{:22}{a:>10}{b:>8}{c:>8}{d:>8}{e:>8}{f:>8}{g:>14}{c:>10}{:>8}", "kind of book", "same");
     let mut kinds = KINDS.map(Measured::of);
     for _ in 0..PASSES {

@@ -14,8 +14,8 @@ use Rattle.winners.specs.Passes.{Passable}
 use Rattle.winners.specs.Rows.{searched}
 use Rattle.winners.specs.Trims.{Trimmed-to}
 use Rattle.winners.proofs.HeldBids.{supply-left}
-use Rattle.winners.proofs.LaidOut.{least-of, leasts-laid, idle-but, laid-out}
-use Rattle.winners.proofs.PassSteps.{values-none}
+use Rattle.winners.proofs.LaidOut.{least-of, head-of, leasts-laid, idle-but, laid-out, heads-heaviest, heads-weigh, heads-ask}
+use Rattle.winners.proofs.SetAfterSet.{values-none}
 use Rattle.winners.proofs.pass.weigh_all.Statement.{statement}
 use Rattle.winners.proofs.pass.weigh_all.Tie as tie
 
@@ -85,11 +85,17 @@ module _ (c : tie.After-held-in) where
       k = length (b .kinds);
       supply = supplies b;
       least = least;
+      head = head-of b sound (start .args .discard) rows numbers trims;
       laid = laid-out b sound (start .args .discard) rows numbers trims;
     };
     idle = idle-but b sound (start .args .discard) rows numbers trims _ (c .held-in .ensures);
     left = supplied (filled .before .before);
     leasts = leasts-laid b sound (start .args .discard) rows numbers trims;
+    headed = λ t l u on. record {
+      heaviest = heads-heaviest b sound (start .args .discard) rows numbers trims _ (c .held-in .ensures) t l u on;
+      weighs = heads-weigh b sound (start .args .discard) rows numbers trims _ (c .held-in .ensures) t l u on;
+    };
+    heads-asked = heads-ask b sound (start .args .discard) rows numbers trims _ (c .held-in .ensures) _ (filled .fill .ensures .0);
   }
 
 returns : tie.Need-returns
