@@ -14,23 +14,22 @@ use Rattle.market.proofs.Hours.{less-length, less-at, fits-at, fits-if}
 use Rattle.market.proofs.Each.{Each}
 use Rattle.market.proofs.Choose.{choose-within}
 use Rattle.market.proofs.Vector.{open-parts, open-if}
-use Rattle.market.proofs.Adding.{more-length, more-at, fits-length}
+use Rattle.market.proofs.Adding.{more-length, more-at, fits-length, fits-trans, less-fits}
 use Rattle.market.proofs.Reach.{reach-take, reach-less}
 
--- hours that fit together: the first fit, the others fit, and fit what the first leave
+-- hours that fit together: the first fit, and the others fit what these leave, and so by themselves
 module _ (xs ys ls : List ℕ) (t : fits (more xs ys) ls ≡ true) where
   first-fits : fits xs ls ≡ true
   first-fits =
       fits-if xs ls (omega (arith, more-length xs ys, fits-length _ _ t)) (λ k l. omega (arith, more-at xs ys k, fits-at _ _ t k))
 
-  pub others-fit : fits ys ls ≡ true
-  others-fit =
-      fits-if ys ls (omega (arith, more-length xs ys, fits-length _ _ t)) (λ k l. omega (arith, more-at xs ys k, fits-at _ _ t k))
-
   others-fit-after : fits ys (less ls xs) ≡ true
   others-fit-after =
       fits-if ys (less ls xs) (omega (arith, more-length xs ys, less-length ls xs, fits-length _ _ t))
       (λ k l. omega (arith, more-at xs ys k, less-at ls xs k, fits-at _ _ t k))
+
+  pub others-fit : fits ys ls ≡ true
+  others-fit = fits-trans ys (less ls xs) ls others-fit-after (less-fits ls xs)
 
 -- a heaviest bid of each client
 module _ (m : Market) (wt : ℕ → ℕ) (head : ℕ → ℕ) where
