@@ -7,6 +7,8 @@
 // `bytes`, big-endian numbers at any place of any bytes, for the sheet's reader. Each takes anything, asks nothing of its caller, and its
 // contract gives its result by value. The laws of proofs/ that are `pub` say what a sound book is (Soundness, SoundRead), what a value says
 // by number (Held), and what the questions say of the bytes (Refusals).
+#![tactic(auto)]
+
 mod asked;
 pub mod bytes;
 mod counts;

@@ -8,8 +8,8 @@ use crate::value::Book;
 use crate::{counts, filling, layout, tables, test_of_value};
 
 // The number of the first question that is answered no, and zeros; or 0, the length that the book gives itself, and the book.
+#[derive(Clone, Copy)]
 #[repr(C)]
-#[derive(Drop)]
 pub struct Reading {
     pub number: u8,
     pub length: u16,

@@ -5,6 +5,8 @@
 // 1,000,000, which no book gives. A caller with bounds of another kind must look for that 7.
 // A client may cite their contracts, the laws of the numbers in proofs/Refusals and proofs/DiscountRefusals, and the laws of ranges in
 // proofs/InRange.
+#![tactic(auto)]
+
 ghost use Rattle.std.specs.Prelude.{◌≡◌};
 ghost use Rattle.certificate.specs.Figures.{at, certificate};
 ghost use Rattle.certificate.specs.Refusals.{balances_number};

@@ -8,7 +8,7 @@ use crate::limits::in_range;
 
 // A certificate: w winners, the denominators q and s, the 64 bits of G in two's complement, then x, z, r and t by winner, y and u by
 // the set's number. Entries from w up, set 0 and sets from 2^w up are not looked at.
-#[derive(Drop)]
+#[derive(Clone, Copy)]
 pub struct Figures {
     pub w: u64,
     pub q: u64,

@@ -1,4 +1,6 @@
 // The library for callers in C, C++, Rust and others: functions that return their answers by value and lend nothing.
+#![tactic(auto)]
+
 ghost use Rattle.book.specs.Layout.{book_in};
 ghost use Rattle.book.specs.Questions.{book_refusal};
 ghost use Rattle.demands.specs.Call.{call_in};

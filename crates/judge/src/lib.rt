@@ -3,6 +3,8 @@
 // What a client may cite: `judge_sheet`, of an input that holds both, and `judge_over`, of a book that is a value. Each takes anything and
 // asks nothing, with the contract `Judgement` (specs/Judgement.antt): every field of the answer as a value, and demands 1, 2 and 3 on it.
 // And the sheet's reader, `sheet`. Books are read by crate book, and nobody here looks at a byte of one.
+#![tactic(auto)]
+
 mod chain;
 mod columns;
 mod figures;

@@ -15,8 +15,8 @@ use book::Book;
 use certificate::ranges::Figures;
 
 // The answer to an input: 0 and the prices over q of w winners, or the number of the first question that is answered no, and zeros.
+#[derive(Clone, Copy)]
 #[repr(C)]
-#[derive(Drop)]
 pub struct Prices {
     pub number: u32,
     pub w: u32,

@@ -14,7 +14,7 @@ use book::bytes;
 use certificate::ranges::Figures;
 
 // A sheet: 0 or the number of the question that refuses it, the bid numbers of the winners, and its figures.
-#[derive(Drop)]
+#[derive(Clone, Copy)]
 pub struct SheetReading {
     pub number: u8,
     pub bids: [u8; 6],

@@ -3,6 +3,8 @@
 // What a client may cite: `price_list`, which takes any input and asks nothing, with its contract `Listed` (specs/Listing.antt): the text
 // byte by byte, and that it fits; and `price_list_of`, which takes what a program has read of an input, with its contract `ListedRead`
 // (specs/Readings.antt). A law in proofs/ says that an input cut past the longest call has the same text.
+#![tactic(auto)]
+
 ghost use Rattle.std.specs.Prelude.{◌≡◌, ◌∷◌, [], ◌≤◌};
 ghost use Rattle.book.specs.Value.{book_of};
 ghost use Rattle.text.specs.Decimal.{decimal};

@@ -1,6 +1,8 @@
 // The program: reads a call from standard input and writes its price list, or its refusal, to standard output. What is printed of what was
 // read is proved in crates/listing; here it is only read and written. Standard error says where there was no input, and where the text
 // cannot be written.
+#![tactic(auto)]
+
 use libc::{STDERR_FILENO, STDIN_FILENO, STDOUT_FILENO};
 
 fn main() {

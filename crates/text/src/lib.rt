@@ -1,6 +1,8 @@
 // Text in a fixed array of 128 bytes: bytes are put one behind the other, and what no longer fits is left out. A caller may cite the
 // contracts of `empty`, `push` and `push_decimal`, the definitions of specs/ and the laws of proofs/. No function asks anything of its
 // caller.
+#![tactic(auto)]
+
 ghost use Rattle.std.specs.Prelude.{◌≡◌, ◌+◌, ◌%◌};
 ghost use Rattle.text.specs.Decimal.{ascii_zero, decimal};
 ghost use Rattle.text.specs.Text.{blank, pushed, pushes};
@@ -9,8 +11,8 @@ ghost use Rattle.text.specs.Text.{blank, pushed, pushes};
 const CAPACITY: usize = 128;
 
 // Bytes, of which the first `len` have been put there.
+#[derive(Clone, Copy)]
 #[repr(C)]
-#[derive(Drop)]
 pub struct Text {
     pub bytes: [u8; CAPACITY],
     pub len: usize,

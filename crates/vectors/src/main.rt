@@ -17,6 +17,8 @@
 //   u        the greatest value, and σ of the sets of a list of clients: how many, then six places
 //   W        weighing a list of bids: how many, then six places
 //   O        judging a sheet, which follows the book
+#![tactic(auto)]
+
 mod change;
 mod over_bytes;
 mod over_value;

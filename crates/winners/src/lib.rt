@@ -5,6 +5,8 @@
 // `book::sound` to it first, asks nothing of its caller, and its contract gives every field of its answer as a value (specs/). For callers
 // with the bytes of a book there are `greatest_value` and `surpluses`, by `book::read`, which finds a book sound or refuses it. Laws for
 // the layers above: proofs/Books.antt, Greatest.antt, Surplus.antt and Most.antt.
+#![tactic(auto)]
+
 mod choice;
 mod client_sets;
 mod full;

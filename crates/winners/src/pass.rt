@@ -15,7 +15,7 @@ use crate::{client_sets, full, lanes, rows, taken, trims};
 use book::Book;
 
 // A set's floor, and how many clients it has.
-#[derive(Drop)]
+#[derive(Clone, Copy)]
 struct Floor {
     value: u64,
     clients: usize,

@@ -7,8 +7,8 @@ use crate::places::ALL;
 use crate::{lists, pass, values};
 use book::Book;
 
+#[derive(Clone, Copy)]
 #[repr(C)]
-#[derive(Drop)]
 pub struct SigmaTable {
     pub number: u32,
     pub value: u64,

@@ -9,8 +9,8 @@ use crate::pass;
 use crate::places::ALL;
 use book::Book;
 
+#[derive(Clone, Copy)]
 #[repr(C)]
-#[derive(Drop)]
 pub struct Worth {
     pub number: u32,
     pub value: u32,

@@ -9,8 +9,8 @@ use crate::{choice, lists, pass, values};
 use book::Book;
 
 // 0, or the number of the question that is answered no; v, the winners' clients, and σ by set number. Zeros after a refusal.
+#[derive(Clone, Copy)]
 #[repr(C)]
-#[derive(Drop)]
 pub struct Weighed {
     pub number: u32,
     pub value: u64,

@@ -1,0 +1,8 @@
+-- `counts::are_counts_ranged` meets its contract. Assumes nothing.
+use Rattle.book.specs.Questions.{counts_ranged}
+use Rattle.book.proofs.counts.are_counts_ranged.Goals as goal
+
+pub returns : goal.returns
+unfolding counts_ranged
+returns c =
+    rw (c.both.ensures, c.within-2.ensures, c.both-few.ensures, c.within.ensures)

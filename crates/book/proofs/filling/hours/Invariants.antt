@@ -1,0 +1,17 @@
+-- What the loop of `filling::hours` keeps. Assumes nothing.
+use mathlib.Core.Path.{◌≡◌}
+use Prim.Native.Nat.{◌+◌, ◌*◌, ◌-◌, ◌/◌, ◌%◌, ◌≤◌}
+use lib.ListN.{get_or}
+use Rattle.sets.proofs.Filled.{Filled}
+use Rattle.book.specs.Book.{no_bid}
+use Rattle.book.specs.Layout.{bids_in}
+use Rattle.book.proofs.filling.hours.Given as goal
+
+abbrev pub invariant-loop-i : goal.invariant-loop-i
+invariant-loop-i l =
+    (l.i ≤ l.m)
+    × (l.place ≡ l.at + l.i * (l.k + 5))
+    × Filled 192 (λ p. get_or (get_or (bids_in l.m l.k l.at l.input) (p / 4) no_bid).hours (p % 4) 0) (4 * l.i) l.hours
+
+abbrev pub decreases-loop-i : goal.decreases-loop-i
+decreases-loop-i l = l.m - l.i

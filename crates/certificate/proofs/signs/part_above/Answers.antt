@@ -1,0 +1,13 @@
+-- `signs::part_above` meets its contract. Assumes nothing.
+use Prim.Native.Nat.{◌^◌}
+use borrow.Author.Tests.{lt-ltb, le-ltb}
+use Rattle.certificate.specs.Figures.{above}
+use Rattle.certificate.proofs.signs.part_above.Goals as goal
+
+pub returns-then-bits-lt-HALF : goal.returns-then-bits-lt-HALF
+unfolding above
+returns-then-bits-lt-HALF c = rw (lt-ltb c.args.bits (2 ^ 63) c.if-bits-lt-HALF.true)
+
+pub returns-else-bits-lt-HALF : goal.returns-else-bits-lt-HALF
+unfolding above
+returns-else-bits-lt-HALF c = rw (le-ltb c.args.bits (2 ^ 63) c.if-bits-lt-HALF.false)

@@ -1,0 +1,7 @@
+-- `form::winners_of` meets its contract. Assumes nothing.
+use Rattle.demands.specs.Sheet.{sheet_w}
+use Rattle.judge.proofs.form.winners_of.Goals as goal
+
+pub returns : goal.returns
+unfolding sheet_w
+returns c = c.byte_at.ensures

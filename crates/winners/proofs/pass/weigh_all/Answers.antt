@@ -1,0 +1,98 @@
+-- `pass::weigh_all` meets its contract. Assumes nothing.
+use mathlib.Core.Path.{refl}
+use mathlib.Core.List.{List}
+use Prim.Native.Nat.{ℕ}
+use lib.ListN.{length}
+use Rattle.book.specs.Book.{Book, supplies}
+use Rattle.book.specs.Sound.{Sound}
+use Rattle.book.specs.Value.{book_of}
+use Rattle.book.proofs.Held.{sound_held}
+use Rattle.winners.specs.Combinations.{amount_of}
+use Rattle.winners.specs.Lanes.{Left}
+use Rattle.winners.specs.Passes.{Passable}
+use Rattle.winners.specs.Rows.{searched}
+use Rattle.winners.specs.Trims.{TrimmedTo}
+use Rattle.winners.proofs.HeldBids.{supply_left}
+use Rattle.winners.proofs.LaidOut.{least_of, head_of, leasts_laid, idle_but, laid_out, heads_heaviest, heads_weigh, heads_ask}
+use Rattle.winners.proofs.SetAfterSet.{values_none}
+use Rattle.winners.proofs.pass.weigh_all.Goals as goal
+use Rattle.winners.proofs.pass.weigh_all.Goals.{After-held_in-held, After-used-used}
+
+-- the supply as a number
+supplied : (c : After-used-used) → let v = c.args.book in Left (length (book_of v).kinds) (supplies (book_of v))
+    c.used-used.result
+supplied c =
+    let v = c.args.book in
+    let found = rw c.supply_of.ensures at c.used-used.ensures in
+    supply_left (book_of v) (sound_held v c.requires).k_high _ found.0 found.2
+
+pub fill-requires : goal.fill-requires
+fill-requires c = (c.requires, supplied (goal.at.fill-requires c).After-used-used)
+
+pub settle_all-requires : goal.settle_all-requires
+settle_all-requires c =
+    let v = c.args.book in (
+      (c.fill.ensures.rows_len, refl),
+      λ t a b. let (row, held) = c.fill.ensures.rows_held t a b in
+          record {
+            m = searched (book_of v) c.args.discard;
+            wt = amount_of (book_of v);
+            k = length (book_of v).kinds;
+            n = length (book_of v).bids;
+            row = row;
+            kinds_few = (sound_held v c.requires).k_high;
+            held = held;
+          },
+    )
+
+-- the rows that are weighed
+module _ (c : After-held_in-held) where
+  abbrev b : Book
+  b = book_of c.args.book
+
+  sound : Sound b
+  sound = sound_held c.args.book c.requires
+
+  abbrev rows : List ℕ
+  rows = c.settle_all.last.0
+
+  abbrev numbers : List ℕ
+  numbers = c.settle_all.last.1.0
+
+  trims : TrimmedTo (searched b c.args.discard) (amount_of b) (length b.kinds) (length b.bids) 7 rows numbers
+  trims = c.settle_all.ensures _ _ _ _ sound.k_high c.fill.ensures.rows_held
+
+  abbrev least : ℕ → List ℕ
+  least = least_of b sound c.args.discard rows numbers trims
+
+  passable : Passable c.held_in-held.result c.used-used.result rows numbers
+  passable = record {
+    sale = record {
+      m = searched b c.args.discard;
+      wt = amount_of b;
+      k = length b.kinds;
+      supply = supplies b;
+      least = least;
+      head = head_of b sound c.args.discard rows numbers trims;
+      laid = laid_out b sound c.args.discard rows numbers trims;
+    };
+    idle = idle_but b sound c.args.discard rows numbers trims _ c.held_in-held.ensures;
+    left = supplied c.before.before.before.before.before.before.before;
+    leasts = leasts_laid b sound c.args.discard rows numbers trims;
+    headed = λ t l u on. record {
+      heaviest = heads_heaviest b sound c.args.discard rows numbers trims _ c.held_in-held.ensures t l u on;
+      weighs = heads_weigh b sound c.args.discard rows numbers trims _ c.held_in-held.ensures t l u on;
+    };
+    heads_asked = heads_ask b sound c.args.discard rows numbers trims _ c.held_in-held.ensures _ c.fill.ensures.rows_held;
+  }
+
+pub returns-then-held-eq0 : goal.returns-then-held-eq0
+unfolding passable
+returns-then-held-eq0 c = values_none _ _ _ _ c.if-held-eq0.true (passable (goal.at.returns-then-held-eq0 c).After-held_in-held).idle
+
+pub weigh_sets-requires : goal.weigh_sets-requires
+weigh_sets-requires c = passable (goal.at.weigh_sets-requires c).After-held_in-held
+
+pub returns : goal.returns
+unfolding passable
+returns c = c.weigh_sets.ensures (passable (goal.at.returns c).After-held_in-held)

@@ -1,0 +1,167 @@
+-- `pass::weigh_sets` meets its contract. The loop keeps the values of the sets passed, what least hours take and what heads take, in every
+-- market that the rows lay out. Assumes nothing.
+use mathlib.Core.Path.{◌≡◌, refl}
+use mathlib.Core.Bool.{cond}
+use mathlib.Core.List.{List}
+use Prim.Native.Nat.{ℕ, ◌+◌, ◌<◌, ◌≤◌}
+use native.Mathlib.Nat.{le_antisymm}
+use native.Mathlib.Omega.{arith}
+use lib.Bits.{bit_and, and_le_l}
+use lib.Dec.{eqb}
+use lib.ListN.{length, get_or, set, length-replicate, length-set}
+use Rattle.winners.specs.ClientSets.{First, Others, Within}
+use Rattle.winners.specs.Lanes.{Asked, guards}
+use Rattle.winners.specs.Passes.{ValuesTo, Weighable, Passable, head_hours}
+use Rattle.winners.specs.Rows.{first_asked_at}
+use Rattle.winners.specs.Taken.{TakenTo}
+use Rattle.winners.proofs.ClientSets.{and_within, within_and}
+use Rattle.winners.proofs.SetAfterSet.{values_first, values_next, value_left}
+use Rattle.winners.proofs.Taking.{others_few, set_room, taken_first, taken_next, taken_passed}
+use Rattle.winners.proofs.Trimming.{asked_few}
+use Rattle.winners.proofs.pass.weigh_sets.Goals as goal
+use Rattle.winners.proofs.pass.weigh_sets.Goals.{then-some-set, else-some-set}
+
+pub loop-set-init : goal.loop-set-init
+loop-set-init c =
+    let held = c.args.held in
+    let used = c.args.used in
+    let long = length-replicate {A = ℕ} 64 used in (
+      omega arith,
+      omega arith,
+      long,
+      long,
+      λ p. (values_first _ _ _, taken_first _ _ _ held used p.left, taken_first _ _ _ held used p.left),
+    )
+
+pub first-first-requires : goal.first-first-requires
+first-first-requires c = (c.loop-set.invariant.0, c.loop-set-test.true)
+
+-- a set of clients that all have a bid
+inside : {s held : ℕ} → s ≤ bit_and s held → Within s held
+inside {s} {held} l = and_within _ _ (le_antisymm (and_le_l s held) l)
+
+-- what such a set's first client asks for, at the least and by its head
+module _ {held used s first rest : ℕ} {rows leasts : List ℕ} (p : Passable held used rows leasts) (f : First s first) (o : Others s rest)
+    (w : Within s held) where
+  least_asked : Asked p.sale.k (p.sale.least first) (get_or leasts first 0)
+  least_asked = p.leasts _ f.low f.high
+
+  head_asked : Asked p.sale.k (head_hours p.sale first) (get_or leasts first 0 + get_or rows (first_asked_at first) 0)
+  head_asked = p.heads_asked _ f.low f.high (w _ f.there)
+
+  -- the hours used once the set's least hours are taken, and once its heads are
+  module _ {values taken heads : List ℕ} {after head : ℕ} (known : ValuesTo p.sale.m p.sale.wt p.sale.supply s values)
+      (least_before : TakenTo p.sale.k p.sale.supply p.sale.least held s taken)
+      (heads_before : TakenTo p.sale.k p.sale.supply (head_hours p.sale) held s heads)
+      (a : after ≡ cond (eqb (bit_and (get_or taken rest 0) guards) 0) (get_or taken rest 0 + get_or leasts first 0) (get_or taken rest 0))
+      (b : head
+      ≡ cond (eqb (bit_and (get_or heads rest 0) guards) 0)
+      (get_or heads rest 0 + (get_or leasts first 0 + get_or rows (first_asked_at first) 0)) (get_or heads rest 0)) where
+    weighable : 1 ≤ s → s < 64 → Weighable s after head rows values
+    weighable some few = record {
+      sale = p.sale;
+      room = set_room _ _ _ _ taken f o w least_before least_asked a;
+      headed = λ t low high h. p.headed t low high (w (t - 1) h);
+      heads_room = set_room _ _ _ _ heads f o w heads_before head_asked b;
+      known = known;
+      some = some;
+      few = few;
+    }
+
+    least_taken : s < length taken → TakenTo p.sale.k p.sale.supply p.sale.least held (s + 1) (set taken s after)
+    least_taken l = taken_next _ _ _ _ taken f o w least_before least_asked a l
+
+    heads_taken : s < length heads → TakenTo p.sale.k p.sale.supply (head_hours p.sale) held (s + 1) (set heads s head)
+    heads_taken l = taken_next _ _ _ _ heads f o w heads_before head_asked b l
+
+pub bounds-values-some : goal.bounds-values-some
+bounds-values-some c = omega (arith, c.if-some-set.true, c.loop-set-test.true)
+
+pub bounds-leasts-first : goal.bounds-leasts-first
+bounds-leasts-first c = omega (arith, c.first-first.ensures.high)
+
+pub bounds-taken-rest : goal.bounds-taken-rest
+bounds-taken-rest c = omega (arith, c.others-rest.ensures.fewer, c.loop-set-test.true, c.loop-set.invariant.2)
+
+pub with_hours-after-requires : goal.with_hours-after-requires
+with_hours-after-requires c =
+    let l = c.loop-set in
+    let p = c.requires in
+    let w = inside c.if-some-set.false in
+    let f = c.first-first.ensures in
+    let o = c.others-rest.ensures in
+    (others_few _ _ _ _ l.taken f o w (l.invariant.4 p).1, asked_few _ _ _ p.left.kinds_few (least_asked p f o w))
+
+pub bounds-heads-rest : goal.bounds-heads-rest
+bounds-heads-rest c = omega (arith, c.others-rest.ensures.fewer, c.loop-set-test.true, c.loop-set.invariant.3)
+
+pub bounds-rows-first : goal.bounds-rows-first
+bounds-rows-first c = omega (arith, c.first-first.ensures.high)
+
+pub overflow_add-least : goal.overflow_add-least
+overflow_add-least c =
+    let p = c.requires in
+    let w = inside c.if-some-set.false in
+    omega (arith, asked_few _ _ _ p.left.kinds_few (head_asked p c.first-first.ensures c.others-rest.ensures w))
+
+pub with_hours-head-requires : goal.with_hours-head-requires
+with_hours-head-requires c =
+    let l = c.loop-set in
+    let p = c.requires in
+    let w = inside c.if-some-set.false in
+    let f = c.first-first.ensures in
+    let o = c.others-rest.ensures in
+    (others_few _ _ _ _ l.heads f o w (l.invariant.4 p).2, asked_few _ _ _ p.left.kinds_few (head_asked p f o w))
+
+pub value_of-value-requires : goal.value_of-value-requires
+value_of-value-requires c =
+    let (known, rooms, heads) = c.loop-set.invariant.4 c.requires in
+    weighable c.requires c.first-first.ensures c.others-rest.ensures (inside c.if-some-set.false) known rooms heads
+    c.with_hours-after.ensures c.with_hours-head.ensures c.loop-set.invariant.0 c.loop-set-test.true
+
+pub loop-set-preserved : goal.loop-set-preserved
+loop-set-preserved c =
+    let l = c.loop-set in
+    let held = c.args.held in
+    let few = c.loop-set-test.true in
+    elim c.if-some-set.branch [
+      | then-some-set w ↦ rw (w.values-is, w.taken-is, w.heads-is) (
+        omega arith,
+        omega (arith, few),
+        l.invariant.2,
+        l.invariant.3,
+        λ p.
+            let (known, rooms, heads) = l.invariant.4 p in
+            let less = w.if-some-set.true in
+            let idle : Within l.set held → ⊥ = λ v. omega (arith, within_and l.set held few v, less) in (
+              values_next _ _ _ l.set _ l.values few (value_left _ _ _ held l.set _ l.values p.idle known refl less) known,
+              taken_passed _ _ _ held l.set l.taken idle rooms,
+              taken_passed _ _ _ held l.set l.heads idle heads,
+            ),
+      )
+      | else-some-set w ↦ rw (w.values-is, w.taken-is, w.heads-is) (
+        omega arith,
+        omega (arith, few),
+        simp length-set l.invariant.2,
+        simp length-set l.invariant.3,
+        λ p.
+            let (known, rooms, heads) = l.invariant.4 p in
+            let f = w.first-first.ensures in
+            let o = w.others-rest.ensures in
+            let v = inside w.if-some-set.false in
+            let a = w.with_hours-after.ensures in
+            let b = w.with_hours-head.ensures in (
+              values_next _ _ _ l.set _ l.values few
+                  (w.value_of-value.ensures (weighable p f o v known rooms heads a b l.invariant.0 few)) known,
+              least_taken p f o v known rooms heads a b (omega (arith, l.invariant.2, few)),
+              heads_taken p f o v known rooms heads a b (omega (arith, l.invariant.3, few)),
+            ),
+      )
+    ]
+
+pub returns : goal.returns
+returns c =
+    let l = c.loop-set in
+    let all : l.set ≡ 64 = le_antisymm l.invariant.1 c.loop-set-test.false in
+    let done = rw all at l.invariant.4 in
+    λ p. (done p).0
