@@ -77,7 +77,7 @@ overflow_add-after-in-loop-d-2 t c = omega (arith, hours_few c.requires c.loop-d
 pub last_pair-more-requires : goal.last_pair-more-requires
 last_pair-more-requires t c =
     let two : c.args.ahead - 1 ≡ 2 = omega (arith, c.if-ahead-eq3.true) in
-    subst (λ (x : ℕ). Searchable x _ _ _ _ _) two
+    rw two at
     (later c.requires (omega (arith, c.if-ahead-eq3.true)) c.loop-d.invariant.0 c.loop-d.invariant.1 c.loop-d-test.true c.others-rest.ensures
     c.guards_set.ensures.0 c.if-guards_set-eq0.true c.excess-base.ensures)
 

@@ -80,9 +80,9 @@ loop-d-preserved c =
       hi,
       elim c.if-guards_set-eq0.branch [
         | then-guards_set-eq0+else-weight-most w ↦ rw w.top-is (
-          taken c.requires hi found inside c.others-rest.ensures c.guards_set.ensures.0 w.if-guards_set-eq0.true w.excess.ensures
-          (w.last_bid.ensures _)
-        )
+            taken c.requires hi found inside c.others-rest.ensures c.guards_set.ensures.0 w.if-guards_set-eq0.true w.excess.ensures
+            (w.last_bid.ensures _)
+            )
         | else-guards_set-eq0 w ↦ rw w.top-is (found_left found inside _ c.guards_set.ensures.0 w.if-guards_set-eq0.false)
       ],
     )

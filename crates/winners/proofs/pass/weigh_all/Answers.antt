@@ -8,7 +8,6 @@ use Rattle.book.specs.Sound.{Sound}
 use Rattle.book.specs.Value.{book_of}
 use Rattle.book.proofs.Held.{sound_held}
 use Rattle.winners.specs.Combinations.{amount_of}
-use Rattle.winners.specs.Lanes.{Left}
 use Rattle.winners.specs.Passes.{Passable}
 use Rattle.winners.specs.Rows.{searched}
 use Rattle.winners.specs.Trims.{TrimmedTo}
@@ -16,24 +15,20 @@ use Rattle.winners.proofs.HeldBids.{supply_left}
 use Rattle.winners.proofs.LaidOut.{least_of, head_of, leasts_laid, idle_but, laid_out, heads_heaviest, heads_weigh, heads_ask}
 use Rattle.winners.proofs.SetAfterSet.{values_none}
 use Rattle.winners.proofs.pass.weigh_all.Goals as goal
-use Rattle.winners.proofs.pass.weigh_all.Goals.{After-held_in-held, After-used-used}
-
--- the supply as a number
-supplied : (c : After-used-used) → let v = c.args.book in Left (length (book_of v).kinds) (supplies (book_of v))
-    c.used-used.result
-supplied c =
-    let v = c.args.book in
-    let found = rw c.supply_of.ensures at c.used-used.ensures in
-    supply_left (book_of v) (sound_held v c.requires).k_high _ found.0 found.2
+use Rattle.winners.proofs.pass.weigh_all.Goals.{After-held_in-held}
 
 pub fill-requires : goal.fill-requires
-fill-requires c = (c.requires, supplied (goal.at.fill-requires c).After-used-used)
+fill-requires c =
+    let v = c.args.book in
+    let found = rw c.supply_of.ensures at c.used-used.ensures in
+    record { book_value = c.requires; left = supply_left (book_of v) (sound_held v c.requires).k_high _ found.0 found.2 }
 
 pub settle_all-requires : goal.settle_all-requires
 settle_all-requires c =
-    let v = c.args.book in (
-      (c.fill.ensures.rows_len, refl),
-      λ t a b. let (row, held) = c.fill.ensures.rows_held t a b in
+    let v = c.args.book in
+    record {
+      rows_len = (c.fill.ensures.rows_len, refl);
+      by_index = λ t a b. let (row, held) = c.fill.ensures.rows_held t a b in
           record {
             m = searched (book_of v) c.args.discard;
             wt = amount_of (book_of v);
@@ -42,8 +37,8 @@ settle_all-requires c =
             row = row;
             kinds_few = (sound_held v c.requires).k_high;
             held = held;
-          },
-    )
+          };
+    }
 
 -- the rows that are weighed
 module _ (c : After-held_in-held) where
@@ -54,10 +49,10 @@ module _ (c : After-held_in-held) where
   sound = sound_held c.args.book c.requires
 
   abbrev rows : List ℕ
-  rows = c.settle_all.last.0
+  rows = c.settle_all.new.rows
 
   abbrev numbers : List ℕ
-  numbers = c.settle_all.last.1.0
+  numbers = c.settle_all.new.leasts
 
   trims : TrimmedTo (searched b c.args.discard) (amount_of b) (length b.kinds) (length b.bids) 7 rows numbers
   trims = c.settle_all.ensures _ _ _ _ sound.k_high c.fill.ensures.rows_held
@@ -77,7 +72,9 @@ module _ (c : After-held_in-held) where
       laid = laid_out b sound c.args.discard rows numbers trims;
     };
     idle = idle_but b sound c.args.discard rows numbers trims _ c.held_in-held.ensures;
-    left = supplied c.before.before.before.before.before.before.before;
+    left =
+        let found = rw c.supply_of.ensures at c.used-used.ensures in
+        supply_left b sound.k_high _ found.0 found.2;
     leasts = leasts_laid b sound c.args.discard rows numbers trims;
     headed = λ t l u on. record {
       heaviest = heads_heaviest b sound c.args.discard rows numbers trims _ c.held_in-held.ensures t l u on;

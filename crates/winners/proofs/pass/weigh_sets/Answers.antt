@@ -3,7 +3,7 @@
 use mathlib.Core.Path.{◌≡◌, refl}
 use mathlib.Core.Bool.{cond}
 use mathlib.Core.List.{List}
-use Prim.Native.Nat.{ℕ, ◌+◌, ◌<◌, ◌≤◌}
+use Prim.Native.Nat.{ℕ, ◌+◌, ◌-◌, ◌<◌, ◌≤◌}
 use native.Mathlib.Nat.{le_antisymm}
 use native.Mathlib.Omega.{arith}
 use lib.Bits.{bit_and, and_le_l}
@@ -37,8 +37,8 @@ pub first-first-requires : goal.first-first-requires
 first-first-requires c = (c.loop-set.invariant.0, c.loop-set-test.true)
 
 -- a set of clients that all have a bid
-inside : {s held : ℕ} → s ≤ bit_and s held → Within s held
-inside {s} {held} l = and_within _ _ (le_antisymm (and_le_l s held) l)
+inside : (s held : ℕ) → s ≤ bit_and s held → Within s held
+inside s held l = and_within _ _ (le_antisymm (and_le_l s held) l)
 
 -- what such a set's first client asks for, at the least and by its head
 module _ {held used s first rest : ℕ} {rows leasts : List ℕ} (p : Passable held used rows leasts) (f : First s first) (o : Others s rest)
@@ -50,7 +50,7 @@ module _ {held used s first rest : ℕ} {rows leasts : List ℕ} (p : Passable h
   head_asked = p.heads_asked _ f.low f.high (w _ f.there)
 
   -- the hours used once the set's least hours are taken, and once its heads are
-  module _ {values taken heads : List ℕ} {after head : ℕ} (known : ValuesTo p.sale.m p.sale.wt p.sale.supply s values)
+  module _ {values : List ℕ} (taken heads : List ℕ) {after head : ℕ} (known : ValuesTo p.sale.m p.sale.wt p.sale.supply s values)
       (least_before : TakenTo p.sale.k p.sale.supply p.sale.least held s taken)
       (heads_before : TakenTo p.sale.k p.sale.supply (head_hours p.sale) held s heads)
       (a : after ≡ cond (eqb (bit_and (get_or taken rest 0) guards) 0) (get_or taken rest 0 + get_or leasts first 0) (get_or taken rest 0))
@@ -68,12 +68,6 @@ module _ {held used s first rest : ℕ} {rows leasts : List ℕ} (p : Passable h
       few = few;
     }
 
-    least_taken : s < length taken → TakenTo p.sale.k p.sale.supply p.sale.least held (s + 1) (set taken s after)
-    least_taken l = taken_next _ _ _ _ taken f o w least_before least_asked a l
-
-    heads_taken : s < length heads → TakenTo p.sale.k p.sale.supply (head_hours p.sale) held (s + 1) (set heads s head)
-    heads_taken l = taken_next _ _ _ _ heads f o w heads_before head_asked b l
-
 pub bounds-values-some : goal.bounds-values-some
 bounds-values-some c = omega (arith, c.if-some-set.true, c.loop-set-test.true)
 
@@ -87,7 +81,7 @@ pub with_hours-after-requires : goal.with_hours-after-requires
 with_hours-after-requires c =
     let l = c.loop-set in
     let p = c.requires in
-    let w = inside c.if-some-set.false in
+    let w = inside _ _ c.if-some-set.false in
     let f = c.first-first.ensures in
     let o = c.others-rest.ensures in
     (others_few _ _ _ _ l.taken f o w (l.invariant.4 p).1, asked_few _ _ _ p.left.kinds_few (least_asked p f o w))
@@ -101,14 +95,14 @@ bounds-rows-first c = omega (arith, c.first-first.ensures.high)
 pub overflow_add-least : goal.overflow_add-least
 overflow_add-least c =
     let p = c.requires in
-    let w = inside c.if-some-set.false in
+    let w = inside _ _ c.if-some-set.false in
     omega (arith, asked_few _ _ _ p.left.kinds_few (head_asked p c.first-first.ensures c.others-rest.ensures w))
 
 pub with_hours-head-requires : goal.with_hours-head-requires
 with_hours-head-requires c =
     let l = c.loop-set in
     let p = c.requires in
-    let w = inside c.if-some-set.false in
+    let w = inside _ _ c.if-some-set.false in
     let f = c.first-first.ensures in
     let o = c.others-rest.ensures in
     (others_few _ _ _ _ l.heads f o w (l.invariant.4 p).2, asked_few _ _ _ p.left.kinds_few (head_asked p f o w))
@@ -116,10 +110,11 @@ with_hours-head-requires c =
 pub value_of-value-requires : goal.value_of-value-requires
 value_of-value-requires c =
     let (known, rooms, heads) = c.loop-set.invariant.4 c.requires in
-    weighable c.requires c.first-first.ensures c.others-rest.ensures (inside c.if-some-set.false) known rooms heads
+    weighable c.requires c.first-first.ensures c.others-rest.ensures (inside _ _ c.if-some-set.false) c.loop-set.taken c.loop-set.heads known rooms heads
     c.with_hours-after.ensures c.with_hours-head.ensures c.loop-set.invariant.0 c.loop-set-test.true
 
 pub loop-set-preserved : goal.loop-set-preserved
+unfolding weighable
 loop-set-preserved c =
     let l = c.loop-set in
     let held = c.args.held in
@@ -148,13 +143,13 @@ loop-set-preserved c =
             let (known, rooms, heads) = l.invariant.4 p in
             let f = w.first-first.ensures in
             let o = w.others-rest.ensures in
-            let v = inside w.if-some-set.false in
+            let v = inside _ _ w.if-some-set.false in
             let a = w.with_hours-after.ensures in
             let b = w.with_hours-head.ensures in (
               values_next _ _ _ l.set _ l.values few
-                  (w.value_of-value.ensures (weighable p f o v known rooms heads a b l.invariant.0 few)) known,
-              least_taken p f o v known rooms heads a b (omega (arith, l.invariant.2, few)),
-              heads_taken p f o v known rooms heads a b (omega (arith, l.invariant.3, few)),
+                  (w.value_of-value.ensures (weighable p f o v l.taken l.heads known rooms heads a b l.invariant.0 few)) known,
+              taken_next _ _ _ _ l.taken f o v rooms (least_asked p f o v) a (omega (arith, l.invariant.2, few)),
+              taken_next _ _ _ _ l.heads f o v heads (head_asked p f o v) b (omega (arith, l.invariant.3, few)),
             ),
       )
     ]
