@@ -1,13 +1,10 @@
 -- `judge::chain::answer_over` meets its contract. Assumes nothing.
 use mathlib.Core.Path.{◌≡◌, ◌∙◌}
 use mathlib.Core.Bool.{true}
-use mathlib.Core.List.{List}
-use Prim.Native.Nat.{ℕ}
 use native.Mathlib.Omega.{arith}
 use Rattle.book.specs.Value.{book_of}
 use Rattle.pricing.specs.Ranges.{in_range}
 use Rattle.certificate.specs.Figures.{certificate}
-use Rattle.certificate.specs.declared.ranges.Figures.{Figures}
 use Rattle.demands.specs.Questions.{judged}
 use Rattle.judge.specs.Reading.{sheet_held}
 use Rattle.judge.proofs.NumberedTests.{answered_yes}
@@ -16,53 +13,44 @@ use Rattle.judge.proofs.Weighing.{seven_no, weighed_small, weighed_no, weighed_y
 use Rattle.judge.proofs.chain.answer_over.Goals as goal
 use Rattle.judge.proofs.chain.answer_over.Goals.{After-certificate_number-later, Else-seven-gt0}
 
--- what was read of the sheet
-abbrev chosen : tie.After-ranges → List ℕ
-chosen c = (read c).read.result.bids
-
-abbrev figured : tie.After-ranges → Figures
-figured c = (read c).read.result.figures
-
 pub returns-then-sheet-gt0 : goal.returns-then-sheet-gt0
 returns-then-sheet-gt0 c =
     c.refused.ensures ∙ form_no _ _ c.requires _ c.read-sheet.ensures c.if-sheet-gt0.true
 
 pub returns-then-seven-gt0 : goal.returns-then-seven-gt0
 returns-then-seven-gt0 c =
-    let seven = seven_no c.args.book (chosen asked) (figured asked) _ c.ranges.ensures c.if-seven-gt0.true in
+    let seven = seven_no c.args.book c.read-sheet.result.bids c.read-sheet.result.figures _ c.ranges-seven.ensures c.if-seven-gt0.true in
     c.refused-then-seven-gt0.ensures
     ∙ sheet_no _ _ c.requires _ c.read-sheet.ensures c.if-sheet-gt0.false _ seven c.if-seven-gt0.true
 
 -- past question 7 the figures are in range
-ranged : (c : Else-seven-gt0) → in_range (certificate (figured c.before)) ≡ true
+ranged : (c : Else-seven-gt0) → in_range (certificate c.read-sheet.result.figures) ≡ true
 ranged c =
-    answered_yes (in_range (certificate (figured c.before))) 7 _ (omega arith) c.ranges.ensures c.if-seven-gt0.false
+    answered_yes (in_range (certificate c.read-sheet.result.figures)) 7 _ (omega arith) c.ranges-seven.ensures c.if-seven-gt0.false
 
 pub overflow_cast-weighed : goal.overflow_cast-weighed
 overflow_cast-weighed c =
-    let start = begin asked in
-    let small = weighed_small start.args.book (chosen asked) (figured asked) start.requires (ranged (goal.at.overflow_cast-weighed c).Else-seven-gt0) _
+    let small = weighed_small c.args.book c.read-sheet.result.bids c.read-sheet.result.figures c.requires (ranged (goal.at.overflow_cast-weighed c).Else-seven-gt0) _
     c.weigh-weighed.ensures in
     record { fits = omega (arith, small) }
 
 pub returns-then-weighed-gt0 : goal.returns-then-weighed-gt0
 returns-then-weighed-gt0 c =
     let no = c.if-weighed-gt0.true in
-    let nine = weighed_no c.args.book (chosen asked) (figured asked) c.requires (ranged (goal.at.returns-then-weighed-gt0 c).Else-seven-gt0) _
+    let nine = weighed_no c.args.book c.read-sheet.result.bids c.read-sheet.result.figures c.requires (ranged (goal.at.returns-then-weighed-gt0 c).Else-seven-gt0) _
     c.weigh-weighed.ensures no in
     c.refused-then-weighed-gt0.ensures ∙ sheet_no _ _ c.requires _ c.read-sheet.ensures c.if-sheet-gt0.false _ nine no
 
 pub certificate_number-later-requires : goal.certificate_number-later-requires
 certificate_number-later-requires c =
-    weighed_sheet c.args.book (chosen asked) (figured asked) c.requires (ranged (goal.at.certificate_number-later-requires c).Else-seven-gt0) _
+    weighed_sheet c.args.book c.read-sheet.result.bids c.read-sheet.result.figures c.requires (ranged (goal.at.certificate_number-later-requires c).Else-seven-gt0) _
     c.weigh-weighed.ensures c.if-weighed-gt0.false
 
 number : (c : After-certificate_number-later) →
-    c.certificate_number-later.result ≡ judged (book_of (begin asked).args.book) (sheet_held (chosen asked) (figured asked))
+    c.certificate_number-later.result ≡ judged (book_of c.args.book) (sheet_held c.read-sheet.result.bids c.read-sheet.result.figures)
 number c =
-    let start = begin asked in
     c.certificate_number-later.ensures
-    ∙ weighed_yes start.args.book (chosen asked) (figured asked) start.requires (ranged c.before.before.before.before.before) _ c.weigh-weighed.ensures
+    ∙ weighed_yes c.args.book c.read-sheet.result.bids c.read-sheet.result.figures c.requires (answered_yes (in_range (certificate c.read-sheet.result.figures)) 7 _ (omega arith) c.ranges-seven.ensures c.if-seven-gt0.false) _ c.weigh-weighed.ensures
     c.if-weighed-gt0.false
 
 pub returns-then-later-gt0 : goal.returns-then-later-gt0
@@ -73,7 +61,7 @@ returns-then-later-gt0 c =
 -- past all questions the figures are in range
 pub accepted-requires : goal.accepted-requires
 accepted-requires c =
-    held_ranges (book_of (begin asked).args.book) (chosen asked) (figured asked) _ (number (goal.at.accepted-requires c).After-certificate_number-later) c.if-later-gt0.false
+    held_ranges (book_of c.args.book) c.read-sheet.result.bids c.read-sheet.result.figures _ (number (goal.at.accepted-requires c).After-certificate_number-later) c.if-later-gt0.false
 
 pub returns : goal.returns
 returns c =

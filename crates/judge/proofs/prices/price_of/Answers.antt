@@ -1,13 +1,12 @@
 -- `prices::price_of` meets its contract. Assumes nothing.
 use borrow.Author.Rules.{rules}
-use borrow.Author.Tests.{not-true, not-false}
 use native.Mathlib.Omega.{arith}
 use Rattle.book.proofs.Products.{product_most}
 use Rattle.winners.specs.Combinations.{amount_of}
 use Rattle.judge.proofs.prices.price_of.Goals as goal
 
 pub returns-then-not-there : goal.returns-then-not-there
-returns-then-not-there c v count array = let off = not-true c.args.there c.if-not-there.true in rw off
+returns-then-not-there c v count array = rw c.if-not-there.true
 
 -- q is at most 10,000, and an amount has 32 bits
 pub overflow_mul-q : goal.overflow_mul-q
@@ -17,5 +16,4 @@ overflow_mul-q c =
 pub returns : goal.returns
 unfolding amount_of
 returns c v count array =
-    let on = not-false c.args.there c.if-not-there.false in
-    rw (on, c.excess.ensures, c.amount_in-amount.ensures v count array)
+    rw (c.if-not-there.false, c.excess.ensures, c.amount_in-amount.ensures v count array)
