@@ -99,10 +99,10 @@ pub(crate) fn fill_payers(
     client: &mut [u8; 48],
     amount: &mut [u32; 48],
 )
-    requires bids_inside { BidsInside input.now k m at }
-    requires client_value { (client.old ≡ replicate 48 0) × (amount.old ≡ replicate 48 0) }
-    ensures client_after { client.new ≡ tabulate 48 (λ i. (get_or (bids_in m k at input.now) i no_bid).client) }
-    ensures amount_after { amount.new ≡ tabulate 48 (λ i. (get_or (bids_in m k at input.now) i no_bid).amount) }
+    requires inside { BidsInside input.now k m at }
+    requires zeros { (client.old ≡ replicate 48 0) × (amount.old ≡ replicate 48 0) }
+    ensures clients { client.new ≡ tabulate 48 (λ i. (get_or (bids_in m k at input.now) i no_bid).client) }
+    ensures amounts { amount.new ≡ tabulate 48 (λ i. (get_or (bids_in m k at input.now) i no_bid).amount) }
 {
     let mut place = at;
     let mut i: usize = 0;

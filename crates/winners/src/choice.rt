@@ -49,8 +49,8 @@ fn may_follow(named: bool, last: usize, owner: usize, n: usize, stands: bool, fi
 
 // Each bid may follow the one before it. The loop ends with the first that may not. The arrays are lent and not copied.
 fn all_follow(book: Book, bids: [u8; 6], count: usize) -> bool
-    requires book_value { sound_number book ≡ 0 }
-    requires count_bound { count ≤ 6 }
+    requires sound { sound_number book ≡ 0 }
+    requires few { count ≤ 6 }
     ensures { result ≡ is_combination (market (book_of book)) (clients (book_of book)) (supplies (book_of book)) (take count bids) }
 {
     let n = book.n as usize;

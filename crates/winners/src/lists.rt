@@ -26,7 +26,7 @@ pub(crate) fn is_rising(clients: [u8; 6], count: usize, n: usize) -> bool
 fn double(discards: &mut [u8; 64], end: usize, bit: u8)
     requires { RoomToDouble discards.old end bit }
     ensures doubled { Doubled discards.old end bit end discards.new }
-    ensures discards_len { length discards.new ≡ 64 }
+    ensures long { length discards.new ≡ 64 }
 {
     let mut set: usize = 0;
     while set < end {

@@ -25,7 +25,7 @@ struct Floor {
 fn floor_of(set: usize, values: &[u64; SETS]) -> Floor
     requires { set < 64 }
     ensures floor_past { FloorPast 0 set values.now result.value }
-    ensures clients_value { result.clients ≡ length (clients_in set) }
+    ensures count { result.clients ≡ length (clients_in set) }
 {
     let mut value: u64 = 0;
     let mut clients: usize = 0;

@@ -49,8 +49,8 @@ fn settle(client: usize, rows: &mut [u64; ROWS_END]) -> u64
 
 // All rows, of whatever market they are.
 pub(crate) fn settle_all(rows: &mut [u64; ROWS_END], leasts: &mut [u64; ROWS])
-    requires rows_len { (length rows.old ≡ rows_end) × (length leasts.old ≡ 7) }
-    requires by_index { (c : ℕ) → 1 ≤ c → c ≤ 6 → SomeRow c rows.old }
+    requires long { (length rows.old ≡ rows_end) × (length leasts.old ≡ 7) }
+    requires some_rows { (c : ℕ) → 1 ≤ c → c ≤ 6 → SomeRow c rows.old }
     ensures { (m : Market) (wt : ℕ → ℕ) (k n : ℕ) → k ≤ 4 → RowsHeld m wt k n rows.old
         → TrimmedTo m wt k n 7 rows.new leasts.new }
 {

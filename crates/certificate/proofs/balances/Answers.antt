@@ -47,7 +47,8 @@ in_a_row c σ ρ b p q r last third second first =
 pub returns : goal.returns
 returns c =
     let a = c.args in
-    let bounds = c.bounded-bounds.ensures ∙ bounded_number_first (certificate a.f) (at a.sigma) (at a.rho) (ready (goal.at.returns c).Else-bounds-eq7) in
+    let bounds = c.bounded-bounds.ensures ∙ bounded_number_first (certificate a.f) (at a.sigma) (at a.rho)
+    (ready (goal.at.returns c).Else-bounds-eq7) in
     in_a_row (certificate a.f) (at a.sigma) (at a.rho) bounds
     (c.all_covered-cover.ensures _ _) c.totals_meet-totals.ensures (c.all_balanced-near.ensures _)
     c.answer.ensures c.answer-2.ensures c.answer-between.ensures c.answer-3.ensures
@@ -60,4 +61,8 @@ pub totals_meet-totals-requires : goal.totals_meet-totals-requires
 totals_meet-totals-requires c = ready (goal.at.totals_meet-totals-requires c).Else-bounds-eq7
 
 pub all_balanced-near-requires : goal.all_balanced-near-requires
-all_balanced-near-requires c = record { ranges = (ready (goal.at.all_balanced-near-requires c).Else-bounds-eq7).ranges; σ_most = (ready (goal.at.all_balanced-near-requires c).Else-bounds-eq7).tables.σ_most }
+all_balanced-near-requires c = record {
+  ranges = (ready (goal.at.all_balanced-near-requires c).Else-bounds-eq7).ranges;
+  σ_most =
+      (ready (goal.at.all_balanced-near-requires c).Else-bounds-eq7).tables.σ_most;
+}

@@ -21,7 +21,8 @@ answer c = c.judge_over-answer.ensures.fields ∙ ap answer_of (read_call _ _ c.
 
 pub returns-then-answer-gt0 : goal.returns-then-answer-gt0
 returns-then-answer-gt0 c =
-    refused_listed _ _ (answer (goal.at.returns-then-answer-gt0 c).After-judge_over-answer) _ c.if-answer-gt0.true c.refused-then-answer-gt0.ensures
+    refused_listed _ _ (answer (goal.at.returns-then-answer-gt0 c).After-judge_over-answer) _ c.if-answer-gt0.true
+    c.refused-then-answer-gt0.ensures
 
 pub push_winners-requires : goal.push_winners-requires
 push_winners-requires c =
@@ -29,5 +30,6 @@ push_winners-requires c =
 
 pub returns : goal.returns
 returns c =
-    accepted_listed _ _ (answer (goal.at.returns c).After-judge_over-answer) c.if-answer-gt0.false _ _ c.read-reading.ensures c.if-reading-gt0.false
+    accepted_listed _ _ (answer (goal.at.returns c).After-judge_over-answer) c.if-answer-gt0.false _ _ c.read-reading.ensures
+    c.if-reading-gt0.false
     c.bids_of-bids.ensures _ _ c.first_line-first.ensures c.push_winners.ensures

@@ -35,13 +35,15 @@ good c = c.is_bid_good.ensures ∙ (rw (asks c))
 pub returns-then-not-is_bid_good : goal.returns-then-not-is_bid_good
 returns-then-not-is_bid_good c =
     let loop = c.loop-left in
-    all_ended (bid_good _) _ _ _ _ _ (row_next _ _ _ c.loop-left-test.true) (good (goal.at.returns-then-not-is_bid_good c).After-is_bid_good) (c.if-not-is_bid_good.true)
+    all_ended (bid_good _) _ _ _ _ _ (row_next _ _ _ c.loop-left-test.true)
+    (good (goal.at.returns-then-not-is_bid_good c).After-is_bid_good) (c.if-not-is_bid_good.true)
     loop.invariant.0
 
 pub loop-left-preserved : goal.loop-left-preserved
 loop-left-preserved c =
     let loop = c.loop-left in (
-      all_kept (bid_good _) _ _ _ _ _ (row_next _ _ _ c.loop-left-test.true) (good (goal.at.loop-left-preserved c).After-is_bid_good) (c.if-not-is_bid_good.false)
+      all_kept (bid_good _) _ _ _ _ _ (row_next _ _ _ c.loop-left-test.true) (good (goal.at.loop-left-preserved c).After-is_bid_good)
+          (c.if-not-is_bid_good.false)
           loop.invariant.0,
       search rules,
     )

@@ -8,7 +8,8 @@ use Rattle.book.proofs.asked.every_bid_good.Given as goal
 
 abbrev pub invariant-loop-left : goal.invariant-loop-left
 invariant-loop-left l =
-    (all (bid_good l.n) (row l.left l.i (bid_held l.k l.client l.hours l.amount)) ≡ all (bid_good l.n) (row l.m 0 (bid_held l.k l.client l.hours l.amount)))
+    (all (bid_good l.n) (row l.left l.i (bid_held l.k l.client l.hours l.amount)) ≡ all (bid_good l.n)
+    (row l.m 0 (bid_held l.k l.client l.hours l.amount)))
     × (l.i + l.left ≡ l.m)
 
 abbrev pub decreases-loop-left : goal.decreases-loop-left

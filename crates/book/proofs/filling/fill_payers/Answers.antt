@@ -14,8 +14,8 @@ pub loop-i-init : goal.loop-i-init
 loop-i-init c = (
   search rules,
   omega arith,
-  rw c.requires.client_value.0 (filled_none 48 _),
-  rw c.requires.client_value.1 (filled_none 48 _),
+  rw c.requires.zeros.0 (filled_none 48 _),
+  rw c.requires.zeros.1 (filled_none 48 _),
 )
 
 -- the bid at hand has room
@@ -23,7 +23,7 @@ room : (c : In-loop-i) →
     c.loop-i.place + (c.args.k + 5) ≤ length c.args.input.now
 room c =
     let loop = c.loop-i in
-    bid_room _ _ c.args.m c.args.at loop.i _ c.requires.bids_inside c.loop-i-test.true loop.invariant.1
+    bid_room _ _ c.args.m c.args.at loop.i _ c.requires.inside c.loop-i-test.true loop.invariant.1
 
 pub bounds-input-place : goal.bounds-input-place
 bounds-input-place c = omega (arith, room (goal.at.bounds-input-place c).In-loop-i)
@@ -52,6 +52,6 @@ pub returns : goal.returns
 returns c =
     let filled = c.loop-i.invariant in
     record {
-      client_after = filled_whole 48 _ _ _ filled.2 (λ j l. client_past _ _ _ _ j (search rules));
-      amount_after = filled_whole 48 _ _ _ filled.3 (λ j l. amount_past _ _ _ _ j (search rules));
+      clients = filled_whole 48 _ _ _ filled.2 (λ j l. client_past _ _ _ _ j (search rules));
+      amounts = filled_whole 48 _ _ _ filled.3 (λ j l. amount_past _ _ _ _ j (search rules));
     }

@@ -8,7 +8,8 @@ use Rattle.book.proofs.limit.bids_of.Given as goal
 
 abbrev pub invariant-loop-i : goal.invariant-loop-i
 invariant-loop-i l =
-    (l.i ≤ l.m) × (l.count + times l.who (row (l.m - l.i) l.i (λ j. get_or l.client j 0)) ≡ times l.who (row l.m 0 (λ j. get_or l.client j 0))) × (l.count ≤ l.i)
+    (l.i ≤ l.m) × (l.count + times l.who (row (l.m - l.i) l.i (λ j. get_or l.client j 0)) ≡ times l.who
+    (row l.m 0 (λ j. get_or l.client j 0))) × (l.count ≤ l.i)
 
 abbrev pub decreases-loop-i : goal.decreases-loop-i
 decreases-loop-i l = l.m - l.i

@@ -45,7 +45,7 @@ after_first : (c : Else-not-is_met) (rs ss cs : List ℕ) →
     → all (reserves_met (row a.k 0 (kind_held ss rs))) (row (c.loop-left.left - 1) (c.loop-left.i + 1) f)
     ≡ all (reserves_met (row a.k 0 (kind_held ss rs))) (row a.m 0 f)
 after_first c rs ss cs e =
-    all_kept (reserves_met _) _ _ _ _ _ (row_next _ _ _ (omega arith)) 
+    all_kept (reserves_met _) _ _ _ _ _ (row_next _ _ _ (omega arith))
     (reserves_tested c.args.hours.now rs ss _ cs _ _ _ _ _ _ c.requires.0 e refl c.reserves_of_eight-both.ensures.0
     c.is_met.ensures) (c.if-not-is_met.false)
     (c.loop-left.invariant.0 rs ss cs e)
@@ -53,19 +53,22 @@ after_first c rs ss cs e =
 pub returns-then-not-is_met : goal.returns-then-not-is_met
 returns-then-not-is_met c ss cs =
     let cut = c.first_reserves-first.ensures in
-    all_ended (reserves_met _) _ _ _ _ _ (row_next _ _ _ (omega arith)) (first_met (goal.at.returns-then-not-is_met c).After-is_met _ ss cs cut) (c.if-not-is_met.true)
+    all_ended (reserves_met _) _ _ _ _ _ (row_next _ _ _ (omega arith))
+    (first_met (goal.at.returns-then-not-is_met c).After-is_met _ ss cs cut) (c.if-not-is_met.true)
     (c.loop-left.invariant.0 _ ss cs cut)
 
 pub returns-then-not-is_met-2 : goal.returns-then-not-is_met-2
 returns-then-not-is_met-2 c ss cs =
     let cut = c.first_reserves-first.ensures in
-    all_ended (reserves_met _) _ _ _ _ _ (row_second _ _ _ c.loop-left-test.true) (second_met (goal.at.returns-then-not-is_met-2 c).After-is_met-in-loop-left _ ss cs cut)
+    all_ended (reserves_met _) _ _ _ _ _ (row_second _ _ _ c.loop-left-test.true)
+    (second_met (goal.at.returns-then-not-is_met-2 c).After-is_met-in-loop-left _ ss cs cut)
     (c.if-not-is_met-2.true) (after_first (goal.at.returns-then-not-is_met-2 c).Else-not-is_met _ ss cs cut)
 
 pub loop-left-preserved : goal.loop-left-preserved
 loop-left-preserved c = (
   λ rs ss cs e.
-      all_kept (reserves_met _) _ _ _ _ _ (row_second _ _ _ c.loop-left-test.true) (second_met (goal.at.loop-left-preserved c).After-is_met-in-loop-left rs ss cs e)
+      all_kept (reserves_met _) _ _ _ _ _ (row_second _ _ _ c.loop-left-test.true)
+      (second_met (goal.at.loop-left-preserved c).After-is_met-in-loop-left rs ss cs e)
       (c.if-not-is_met-2.false) (after_first (goal.at.loop-left-preserved c).Else-not-is_met rs ss cs e),
   search rules,
 )

@@ -5,7 +5,17 @@ use native.Mathlib.Omega.{arith}
 use Rattle.book.specs.Layout.{book_in}
 use Rattle.book.specs.Questions.{version_good, counts_good, tables_good}
 use Rattle.book.specs.Reading.{arrays_of}
-use Rattle.book.proofs.Answering.{refused_is, refused_by_one, refused_by_two, refused_by_three, LayoutInside, laid, supplies_are, reserves_are, tables_are}
+use Rattle.book.proofs.Answering.{
+  refused_is,
+  refused_by_one,
+  refused_by_two,
+  refused_by_three,
+  LayoutInside,
+  laid,
+  supplies_are,
+  reserves_are,
+  tables_are,
+}
 use Rattle.book.proofs.reading.read.Goals as goal
 use Rattle.book.proofs.reading.read.Goals.{After-bids-m, After-both, Else-not-is_version_good}
 
@@ -31,7 +41,8 @@ returns-then-not-is_version_good c =
 pub returns-then-not-are_counts_good : goal.returns-then-not-are_counts_good
 returns-then-not-are_counts_good c =
     let no = sym c.are_counts_good.ensures ∙ c.if-not-are_counts_good.true in
-    rw c.refused-then-not-are_counts_good.ensures (refused_is _ 2 (refused_by_two _ (one (goal.at.returns-then-not-are_counts_good c).Else-not-is_version_good) no) (λ z. omega arith))
+    rw c.refused-then-not-are_counts_good.ensures (refused_is _ 2
+    (refused_by_two _ (one (goal.at.returns-then-not-are_counts_good c).Else-not-is_version_good) no) (λ z. omega arith))
 
 pub kinds_good-kinds-requires : goal.kinds_good-kinds-requires
 kinds_good-kinds-requires c = (counted (goal.at.kinds_good-kinds-requires c).After-bids-m).room.kinds
@@ -63,7 +74,8 @@ tabled c =
 pub returns-then-not-both : goal.returns-then-not-both
 returns-then-not-both c =
     let no = sym (tabled (goal.at.returns-then-not-both c).After-both) ∙ c.if-not-both.true in
-    rw c.refused-then-not-both.ensures (refused_is _ 3 (refused_by_three _ (one (goal.at.returns-then-not-both c).Else-not-is_version_good) (two (goal.at.returns-then-not-both c).After-both) no) (λ z. omega arith))
+    rw c.refused-then-not-both.ensures (refused_is _ 3 (refused_by_three _ (one (goal.at.returns-then-not-both c).Else-not-is_version_good)
+    (two (goal.at.returns-then-not-both c).After-both) no) (λ z. omega arith))
 
 pub read_bids-requires : goal.read_bids-requires
 read_bids-requires c =

@@ -2,7 +2,18 @@
 use mathlib.Core.Path.{◌≡◌, refl, sym, ◌∙◌}
 use native.Mathlib.Omega.{arith}
 use Rattle.book.specs.Questions.{book_refusal}
-use Rattle.book.proofs.Answering.{refused_is, accepted_is, LayoutInside, laid, caps_are, clients_are, hours_are, amounts_are, number_is, arrays_are}
+use Rattle.book.proofs.Answering.{
+  refused_is,
+  accepted_is,
+  LayoutInside,
+  laid,
+  caps_are,
+  clients_are,
+  hours_are,
+  amounts_are,
+  number_is,
+  arrays_are,
+}
 use Rattle.book.proofs.reading.read_bids.Goals as goal
 use Rattle.book.proofs.reading.read_bids.Goals.{After-bids_number-number, Start}
 
@@ -23,12 +34,16 @@ pub overflow_add-bids : goal.overflow_add-bids
 overflow_add-bids c = omega (arith, (counted (goal.at.overflow_add-bids c).Start).room.kinds)
 
 pub overflow_add-bids-2 : goal.overflow_add-bids-2
-overflow_add-bids-2 c = omega (arith, (counted (goal.at.overflow_add-bids-2 c).Start).room.kinds, (counted (goal.at.overflow_add-bids-2 c).Start).room.clients)
+overflow_add-bids-2 c = omega (
+  arith,
+  (counted (goal.at.overflow_add-bids-2 c).Start).room.kinds,
+  (counted (goal.at.overflow_add-bids-2 c).Start).room.clients,
+)
 
 pub fill_payers-requires : goal.fill_payers-requires
 fill_payers-requires c = record {
-  bids_inside = (counted (goal.at.fill_payers-requires c).Start).bids;
-  client_value = (refl, refl);
+  inside = (counted (goal.at.fill_payers-requires c).Start).bids;
+  zeros = (refl, refl);
 }
 
 pub hours-hours-requires : goal.hours-hours-requires
@@ -45,13 +60,14 @@ numbered c =
     let a = c.args in
     number_is _ _ _ _ t.two t.kinds t.clients t.bids a.supply a.reserve t.supplies t.reserves _ _ _ _
     t.one t.three
-    (clients_are _ _ _ _ t.two t.kinds t.clients t.bids _ c.fill_payers.ensures.client_after)
+    (clients_are _ _ _ _ t.two t.kinds t.clients t.bids _ c.fill_payers.ensures.clients)
     (hours_are _ _ _ _ t.two t.kinds t.clients t.bids _ c.hours-hours.ensures)
-    (amounts_are _ _ _ _ t.two t.kinds t.clients t.bids _ c.fill_payers.ensures.amount_after)
+    (amounts_are _ _ _ _ t.two t.kinds t.clients t.bids _ c.fill_payers.ensures.amounts)
     (c.bids_number-number.ensures c.args.supply)
 
 pub returns-then-number-ne0 : goal.returns-then-number-ne0
-returns-then-number-ne0 c = rw c.refused.ensures (refused_is _ _ (numbered (goal.at.returns-then-number-ne0 c).After-bids_number-number) c.if-number-ne0.true)
+returns-then-number-ne0 c = rw c.refused.ensures (refused_is _ _ (numbered (goal.at.returns-then-number-ne0 c).After-bids_number-number)
+    c.if-number-ne0.true)
 
 pub caps-caps-requires : goal.caps-caps-requires
 caps-caps-requires c = (counted (goal.at.caps-caps-requires c).Start).statuses
@@ -71,6 +87,6 @@ returns c =
     accepted_is _ (sym (numbered (goal.at.returns c).After-bids_number-number) ∙ c.if-number-ne0.false) _ _ c.length-length.ensures
     (arrays_are _ _ _ _ t.two t.kinds t.clients t.bids _ _ _ _ _ _ t.supplies t.reserves
     (caps_are _ _ _ _ t.two t.kinds t.clients t.bids _ c.caps-caps.ensures)
-    (clients_are _ _ _ _ t.two t.kinds t.clients t.bids _ c.fill_payers.ensures.client_after)
+    (clients_are _ _ _ _ t.two t.kinds t.clients t.bids _ c.fill_payers.ensures.clients)
     (hours_are _ _ _ _ t.two t.kinds t.clients t.bids _ c.hours-hours.ensures)
-    (amounts_are _ _ _ _ t.two t.kinds t.clients t.bids _ c.fill_payers.ensures.amount_after))
+    (amounts_are _ _ _ _ t.two t.kinds t.clients t.bids _ c.fill_payers.ensures.amounts))

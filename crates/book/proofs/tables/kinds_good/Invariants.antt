@@ -8,7 +8,8 @@ use Rattle.book.proofs.tables.kinds_good.Given as goal
 
 abbrev pub invariant-loop-left : goal.invariant-loop-left
 invariant-loop-left l =
-    (all kind_good (row l.left l.i (kind_held l.supply l.reserve)) ≡ all kind_good (row l.k 0 (kind_held l.supply l.reserve))) × (l.i + l.left ≡ l.k)
+    (all kind_good (row l.left l.i (kind_held l.supply l.reserve)) ≡ all kind_good (row l.k 0 (kind_held l.supply l.reserve))) ×
+    (l.i + l.left ≡ l.k)
 
 abbrev pub decreases-loop-left : goal.decreases-loop-left
 decreases-loop-left l = l.left

@@ -35,7 +35,12 @@ unfolding bids_refusal
 returns-then-not-amounts_good c ss =
     let clients = c.args.client.now in
     let paid = sym (c.amounts_good.ensures ss clients) ∙ c.if-not-amounts_good.true in
-    rw (each_good (goal.at.returns-then-not-amounts_good c).Else-not-every_bid_good, few_good (goal.at.returns-then-not-amounts_good c).Else-not-few_for_each, paid)
+    rw (
+      each_good (goal.at.returns-then-not-amounts_good c).Else-not-every_bid_good,
+      few_good
+          (goal.at.returns-then-not-amounts_good c).Else-not-few_for_each,
+      paid,
+    )
 
 pub returns : goal.returns
 unfolding bids_refusal

@@ -23,7 +23,12 @@ unfolding sound_number
 returns-then-not-kinds_good c =
     let v = c.args.book in
     let no = sym c.kinds_good.ensures ∙ c.if-not-kinds_good.true in
-    rw (ranged (goal.at.returns-then-not-kinds_good c).Else-not-are_counts_ranged, entries_held v (ranged_room _ _ _ (ranged (goal.at.returns-then-not-kinds_good c).Else-not-are_counts_ranged)), no)
+    rw (
+      ranged (goal.at.returns-then-not-kinds_good c).Else-not-are_counts_ranged,
+      entries_held v
+          (ranged_room _ _ _ (ranged (goal.at.returns-then-not-kinds_good c).Else-not-are_counts_ranged)),
+      no,
+    )
 
 pub bids_number-requires : goal.bids_number-requires
 bids_number-requires c =
@@ -34,4 +39,9 @@ unfolding sound_number
 returns c =
     let v = c.args.book in
     let yes = sym c.kinds_good.ensures ∙ c.if-not-kinds_good.false in
-    rw (ranged (goal.at.returns c).Else-not-are_counts_ranged, entries_held v (ranged_room _ _ _ (ranged (goal.at.returns c).Else-not-are_counts_ranged)), yes) (c.bids_number.ensures v.supply)
+    rw (
+      ranged (goal.at.returns c).Else-not-are_counts_ranged,
+      entries_held v
+          (ranged_room _ _ _ (ranged (goal.at.returns c).Else-not-are_counts_ranged)),
+      yes,
+    ) (c.bids_number.ensures v.supply)

@@ -24,7 +24,11 @@ returns-then-not-in_range c = rw (sym c.in_range.ensures ∙ c.if-not-in_range.t
 
 pub returns-then-not-tables_fit : goal.returns-then-not-tables_fit
 unfolding bounded_number
-returns-then-not-tables_fit c = rw (ranged (goal.at.returns-then-not-tables_fit c).Else-not-in_range, sym c.tables_fit.ensures ∙ c.if-not-tables_fit.true)
+returns-then-not-tables_fit c = rw (
+  ranged (goal.at.returns-then-not-tables_fit c).Else-not-in_range,
+  sym c.tables_fit.ensures ∙
+      c.if-not-tables_fit.true,
+)
 
 pub winners_slack-winners-requires : goal.winners_slack-winners-requires
 winners_slack-winners-requires c =

@@ -42,8 +42,14 @@ overflow_add-given c = omega (arith, discount_most c.requires c.loop-j-test.true
 
 pub loop-j-preserved : goal.loop-j-preserved
 loop-j-preserved c =
-    let inv = c.loop-j.invariant in
-    (search rules, sum_more _ _ inv.1 refl, omega (arith, product_most c.requires c.loop-j-test.true), sum_more _ _ inv.3 refl, omega (arith, discount_most c.requires c.loop-j-test.true))
+    let inv = c.loop-j.invariant in (
+      search rules,
+      sum_more _ _ inv.1 refl,
+      omega (arith, product_most c.requires c.loop-j-test.true),
+      sum_more _ _ inv.3 refl,
+      omega
+          (arith, discount_most c.requires c.loop-j-test.true),
+    )
 
 pub overflow_add-result : goal.overflow_add-result
 overflow_add-result c = omega (arith, c.requires.ranges.few)

@@ -32,7 +32,8 @@ sets_in_range-sets-requires c = few (goal.at.sets_in_range-sets-requires c).Else
 
 pub returns : goal.returns
 returns c =
-    in_range_rest (certificate (figures (goal.at.returns c).Else-not-counts_in_range)) (counted (goal.at.returns c).Else-not-counts_in_range)
+    in_range_rest (certificate (figures (goal.at.returns c).Else-not-counts_in_range))
+    (counted (goal.at.returns c).Else-not-counts_in_range)
     (both_eq c.both-2.ensures
     (both_eq c.both.ensures c.winners_in_range-winners.ensures c.sets_in_range-sets.ensures)
     c.g_in_range.ensures)

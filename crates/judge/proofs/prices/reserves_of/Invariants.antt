@@ -9,7 +9,8 @@ use Rattle.judge.proofs.prices.reserves_of.Given as goal
 
 abbrev pub invariant-loop-j : goal.invariant-loop-j
 invariant-loop-j l =
-    (l.j ≤ l.few) × (l.few ≡ min l.w 6) × (length l.bids ≡ 6) × Filled 6 (λ j. Rattle.demands.specs.Winners.rho (book_of l.book) l.bids j) l.j l.rho
+    (l.j ≤ l.few) × (l.few ≡ min l.w 6) × (length l.bids ≡ 6) × Filled 6 (λ j. Rattle.demands.specs.Winners.rho (book_of l.book) l.bids j)
+    l.j l.rho
 
 abbrev pub decreases-loop-j : goal.decreases-loop-j
 decreases-loop-j l = l.few - l.j

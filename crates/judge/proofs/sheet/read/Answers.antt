@@ -16,7 +16,12 @@ returns-then-not-is_form_good c =
 
 pub figures_of-figures-requires : goal.figures_of-figures-requires
 figures_of-figures-requires c =
-    omega (arith, c.winners_of.ensures, few_winners _ _ _ c.is_form_good.ensures (formed (goal.at.figures_of-figures-requires c).Else-not-is_form_good))
+    omega (
+      arith,
+      c.winners_of.ensures,
+      few_winners _ _ _ c.is_form_good.ensures
+          (formed (goal.at.figures_of-figures-requires c).Else-not-is_form_good),
+    )
 
 pub returns : goal.returns
 returns c =

@@ -17,10 +17,10 @@ use Rattle.winners.proofs.choice.all_follow.Goals.{After-may_follow}
 
 pub loop-i-init : goal.loop-i-init
 unfolding is_combination
-loop-i-init c = (search rules, rw (supply_held _ c.requires.book_value (search rules)), search rules)
+loop-i-init c = (search rules, rw (supply_held _ c.requires.sound (search rules)), search rules)
 
 pub place_of-at-requires : goal.place_of-at-requires
-place_of-at-requires c = (counts_held _ c.requires.book_value).m_high
+place_of-at-requires c = (counts_held _ c.requires.sound).m_high
 
 pub bounds-book-at : goal.bounds-book-at
 bounds-book-at c = c.place_of-at.ensures.0
@@ -29,7 +29,7 @@ pub at_place-asked-requires : goal.at_place-asked-requires
 at_place-asked-requires c = (c.place_of-at.ensures.0, search rules)
 
 pub stands-requires : goal.stands-requires
-stands-requires c = (counts_held _ c.requires.book_value).n_high
+stands-requires c = (counts_held _ c.requires.sound).n_high
 
 -- the test of the bid at hand is question 8's
 next : (c : After-may_follow) →
@@ -40,7 +40,7 @@ next c =
     let l = c.loop-i in
     let a = c.args in
     (rw c.both-named.ensures at c.may_follow.ensures)
-    ∙ follows_held a.book c.requires.book_value (get_or a.bids l.i 0) _ c.place_of-at.ensures.1 _ c.at_place-asked.ensures.value
+    ∙ follows_held a.book c.requires.sound (get_or a.bids l.i 0) _ c.place_of-at.ensures.1 _ c.at_place-asked.ensures.value
     l.last _ (take a.book.k l.left) _ _ refl c.stands.ensures c.fit-fit.ensures
 
 pub returns-then-not-may_follow : goal.returns-then-not-may_follow
@@ -48,7 +48,8 @@ returns-then-not-may_follow c =
     let l = c.loop-i in
     let a = c.args in
     let e = prefix_next a.bids a.count (search rules) l.i (search rules) in
-    choice_ended (book_of a.book) l.last (take a.book.k l.left) _ _ _ (sym (next (goal.at.returns-then-not-may_follow c).After-may_follow) ∙ c.if-not-may_follow.true)
+    choice_ended (book_of a.book) l.last (take a.book.k l.left) _ _ _
+    (sym (next (goal.at.returns-then-not-may_follow c).After-may_follow) ∙ c.if-not-may_follow.true)
     (rw e at l.invariant.1)
 
 pub loop-i-preserved : goal.loop-i-preserved
@@ -56,7 +57,7 @@ loop-i-preserved c =
     let l = c.loop-i in
     let a = c.args in
     let v = a.book in
-    let h = c.requires.book_value in
+    let h = c.requires.sound in
     let number = get_or a.bids l.i 0 in
     let left = take v.k l.left in
     let here = c.place_of-at.ensures.1 in

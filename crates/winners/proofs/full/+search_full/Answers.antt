@@ -78,7 +78,8 @@ pub last_pair-more-requires : goal.last_pair-more-requires
 last_pair-more-requires t c =
     let two : c.args.ahead - 1 ≡ 2 = omega (arith, c.if-ahead-eq3.true) in
     rw two at
-    (later c.requires (omega (arith, c.if-ahead-eq3.true)) c.loop-d.invariant.0 c.loop-d.invariant.1 c.loop-d-test.true c.others-rest.ensures
+    (later c.requires (omega (arith, c.if-ahead-eq3.true)) c.loop-d.invariant.0 c.loop-d.invariant.1 c.loop-d-test.true
+    c.others-rest.ensures
     c.guards_set.ensures.0 c.if-guards_set-eq0.true c.excess-base.ensures)
 
 pub search_full-more-requires : goal.search_full-more-requires
@@ -92,7 +93,8 @@ search_full-more-requires t c =
 pub overflow_add-top : goal.overflow_add-top
 overflow_add-top t c =
     let several : 3 ≤ c.args.ahead = omega (arith, c.requires.some_left, c.if-ahead-eq1.false, c.if-ahead-eq2.false) in
-    let Is = Searched c.others-rest.result (c.args.used + get_or c.args.rows.now (asked_at c.first-client.result c.loop-d.d) 0) c.excess-base.result c.args.rows.now c.args.values.now in
+    let Is = Searched c.others-rest.result (c.args.used + get_or c.args.rows.now (asked_at c.first-client.result c.loop-d.d) 0)
+    c.excess-base.result c.args.rows.now c.args.values.now in
     let add : Is c.if-ahead-eq3.more = elim c.if-ahead-eq3.branch [
       | then-ahead-eq3 w ↦ subst Is (sym w.more-is) w.last_pair-more.ensures
       | else-ahead-eq3 w ↦ subst Is (sym w.more-is) w.search_full-more.ensures
@@ -110,7 +112,8 @@ loop-d-preserved t c =
       hi,
       elim c.if-guards_set-eq0.branch [
         | then-guards_set-eq0 w ↦
-            let Is = Searched c.others-rest.result (c.args.used + get_or c.args.rows.now (asked_at c.first-client.result c.loop-d.d) 0) w.excess-base.result c.args.rows.now c.args.values.now in
+            let Is = Searched c.others-rest.result (c.args.used + get_or c.args.rows.now (asked_at c.first-client.result c.loop-d.d) 0)
+            w.excess-base.result c.args.rows.now c.args.values.now in
             let add : Is w.if-ahead-eq3.more = elim w.if-ahead-eq3.branch [
               | then-ahead-eq3 v ↦ subst Is (sym v.more-is) v.last_pair-more.ensures
               | else-ahead-eq3 v ↦ subst Is (sym v.more-is) v.search_full-more.ensures

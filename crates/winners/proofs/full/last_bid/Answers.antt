@@ -30,7 +30,11 @@ module _ (c : In-loop-d) where
   near = place_few able hi d c.loop-d-test.true
 
 pub overflow_add-taken-in-loop-d-2 : goal.overflow_add-taken-in-loop-d-2
-overflow_add-taken-in-loop-d-2 c = omega (arith, hours_few (able (goal.at.overflow_add-taken-in-loop-d-2 c).In-loop-d) (hi (goal.at.overflow_add-taken-in-loop-d-2 c).In-loop-d) (d (goal.at.overflow_add-taken-in-loop-d-2 c).In-loop-d) c.loop-d-test.true)
+overflow_add-taken-in-loop-d-2 c = omega (
+  arith,
+  hours_few (able (goal.at.overflow_add-taken-in-loop-d-2 c).In-loop-d)
+      (hi (goal.at.overflow_add-taken-in-loop-d-2 c).In-loop-d) (d (goal.at.overflow_add-taken-in-loop-d-2 c).In-loop-d) c.loop-d-test.true,
+)
 
 pub returns-then-guards_set-eq0 : goal.returns-then-guards_set-eq0
 returns-then-guards_set-eq0 c =
@@ -65,7 +69,12 @@ pub offset_bounds-rows-client-in-loop-d : goal.offset_bounds-rows-client-in-loop
 offset_bounds-rows-client-in-loop-d c = omega (arith, (hi c).high, near c)
 
 pub bounds-rows-client-in-loop-d : goal.bounds-rows-client-in-loop-d
-bounds-rows-client-in-loop-d c = omega (arith, (hi (goal.at.bounds-rows-client-in-loop-d c).In-loop-d).high, near (goal.at.bounds-rows-client-in-loop-d c).In-loop-d)
+bounds-rows-client-in-loop-d c = omega (
+  arith,
+  (hi (goal.at.bounds-rows-client-in-loop-d c).In-loop-d).high,
+  near
+      (goal.at.bounds-rows-client-in-loop-d c).In-loop-d,
+)
 
 pub overflow_mul-client : goal.overflow_mul-client
 overflow_mul-client c = omega (arith, (hi (goal.at.overflow_mul-client c).In-loop-d).high)
@@ -77,10 +86,21 @@ pub overflow_add-client : goal.overflow_add-client
 overflow_add-client c = omega (arith, (hi (goal.at.overflow_add-client c).In-loop-d).high, near (goal.at.overflow_add-client c).In-loop-d)
 
 pub offset_bounds-rows-client-then-guards_set-eq0 : goal.offset_bounds-rows-client-then-guards_set-eq0
-offset_bounds-rows-client-then-guards_set-eq0 c = omega (arith, (hi (goal.at.offset_bounds-rows-client-then-guards_set-eq0 c).In-loop-d).high, near (goal.at.offset_bounds-rows-client-then-guards_set-eq0 c).In-loop-d)
+offset_bounds-rows-client-then-guards_set-eq0 c = omega (
+  arith,
+  (hi
+      (goal.at.offset_bounds-rows-client-then-guards_set-eq0 c).In-loop-d).high,
+  near
+      (goal.at.offset_bounds-rows-client-then-guards_set-eq0 c).In-loop-d,
+)
 
 pub bounds-rows-client-then-guards_set-eq0 : goal.bounds-rows-client-then-guards_set-eq0
-bounds-rows-client-then-guards_set-eq0 c = omega (arith, (hi (goal.at.bounds-rows-client-then-guards_set-eq0 c).In-loop-d).high, near (goal.at.bounds-rows-client-then-guards_set-eq0 c).In-loop-d)
+bounds-rows-client-then-guards_set-eq0 c = omega (
+  arith,
+  (hi (goal.at.bounds-rows-client-then-guards_set-eq0 c).In-loop-d).high,
+  near
+      (goal.at.bounds-rows-client-then-guards_set-eq0 c).In-loop-d,
+)
 
 pub overflow_add-d : goal.overflow_add-d
 overflow_add-d c = omega (arith, near (goal.at.overflow_add-d c).In-loop-d)

@@ -27,7 +27,7 @@ loop-j-preserved c =
     let l = c.loop-j in (
       search rules,
       l.invariant.1,
-      c.double.ensures.discards_len,
+      c.double.ensures.long,
       bytes_next c.args.clients c.args.count c.requires l.invariant.1 l.j c.loop-j-test.true _ l.invariant.3 _
           c.double.ensures.doubled,
     )

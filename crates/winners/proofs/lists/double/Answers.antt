@@ -42,5 +42,5 @@ returns c =
     let l = c.loop-set in
     record {
       doubled = rw (le_antisymm l.invariant.0 c.loop-set-test.false) at l.invariant.2;
-      discards_len = l.invariant.1;
+      long = l.invariant.1;
     }

@@ -54,7 +54,8 @@ loop-left-preserved c =
     rw (rest (goal.at.loop-left-preserved c).After-others-rest) (
       omega (arith, l.invariant.0),
       rest_within _ _ _ [] 0 0 one l.invariant.1,
-      floor_next _ _ _ _ _ _ one l.invariant.1 (rw (bit (goal.at.loop-left-preserved c).After-others-rest) at c.larger-value.ensures) l.invariant.2,
+      floor_next _ _ _ _ _ _ one l.invariant.1 (rw (bit (goal.at.loop-left-preserved c).After-others-rest) at c.larger-value.ensures)
+          l.invariant.2,
       omega (arith, l.invariant.3, clients_one _ _ one),
     )
 
@@ -64,7 +65,7 @@ returns c =
     let z : l.left ≡ 0 = omega (arith, c.loop-left-test.false) in
     record {
       floor_past = rw z at l.invariant.2;
-      clients_value = omega (arith, rw z at l.invariant.3, ap length clients_none);
+      count = omega (arith, rw z at l.invariant.3, ap length clients_none);
     }
 
 pub others-rest-requires : goal.others-rest-requires

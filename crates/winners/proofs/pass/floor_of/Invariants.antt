@@ -8,7 +8,8 @@ use Rattle.winners.proofs.pass.floor_of.Given as goal
 
 abbrev pub invariant-loop-left : goal.invariant-loop-left
 invariant-loop-left l =
-    (l.left < 64) × Within l.left l.set × FloorPast l.left l.set l.values l.value × (l.clients + length (clients_in l.left) ≡ length (clients_in l.set))
+    (l.left < 64) × Within l.left l.set × FloorPast l.left l.set l.values l.value ×
+    (l.clients + length (clients_in l.left) ≡ length (clients_in l.set))
 
 abbrev pub decreases-loop-left : goal.decreases-loop-left
 decreases-loop-left l = l.left

@@ -57,7 +57,7 @@ clear c =
 pub search_full-requires : goal.search_full-requires
 search_full-requires c =
     let floor = c.floor_of-floor.ensures in
-    value_searchable _ _ _ _ _ c.requires _ floor.floor_past (clear c) _ floor.clients_value
+    value_searchable _ _ _ _ _ c.requires _ floor.floor_past (clear c) _ floor.count
 
 pub returns : goal.returns
 returns c =

@@ -21,14 +21,14 @@ pub fill-requires : goal.fill-requires
 fill-requires c =
     let v = c.args.book in
     let found = rw c.supply_of.ensures at c.used-used.ensures in
-    record { book_value = c.requires; left = supply_left (book_of v) (sound_held v c.requires).k_high _ found.0 found.2 }
+    record { sound = c.requires; left = supply_left (book_of v) (sound_held v c.requires).k_high _ found.0 found.2 }
 
 pub settle_all-requires : goal.settle_all-requires
 settle_all-requires c =
     let v = c.args.book in
     record {
-      rows_len = (c.fill.ensures.rows_len, refl);
-      by_index = λ t a b. let (row, held) = c.fill.ensures.rows_held t a b in
+      long = (c.fill.ensures.long, refl);
+      some_rows = λ t a b. let (row, held) = c.fill.ensures.held t a b in
           record {
             m = searched (book_of v) c.args.discard;
             wt = amount_of (book_of v);
@@ -55,7 +55,7 @@ module _ (c : After-held_in-held) where
   numbers = c.settle_all.new.leasts
 
   trims : TrimmedTo (searched b c.args.discard) (amount_of b) (length b.kinds) (length b.bids) 7 rows numbers
-  trims = c.settle_all.ensures _ _ _ _ sound.k_high c.fill.ensures.rows_held
+  trims = c.settle_all.ensures _ _ _ _ sound.k_high c.fill.ensures.held
 
   abbrev least : ℕ → List ℕ
   least = least_of b sound c.args.discard rows numbers trims
@@ -80,7 +80,7 @@ module _ (c : After-held_in-held) where
       heaviest = heads_heaviest b sound c.args.discard rows numbers trims _ c.held_in-held.ensures t l u on;
       weighs = heads_weigh b sound c.args.discard rows numbers trims _ c.held_in-held.ensures t l u on;
     };
-    heads_asked = heads_ask b sound c.args.discard rows numbers trims _ c.held_in-held.ensures _ c.fill.ensures.rows_held;
+    heads_asked = heads_ask b sound c.args.discard rows numbers trims _ c.held_in-held.ensures _ c.fill.ensures.held;
   }
 
 pub returns-then-held-eq0 : goal.returns-then-held-eq0

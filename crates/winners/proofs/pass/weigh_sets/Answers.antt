@@ -110,7 +110,8 @@ with_hours-head-requires c =
 pub value_of-value-requires : goal.value_of-value-requires
 value_of-value-requires c =
     let (known, rooms, heads) = c.loop-set.invariant.4 c.requires in
-    weighable c.requires c.first-first.ensures c.others-rest.ensures (inside _ _ c.if-some-set.false) c.loop-set.taken c.loop-set.heads known rooms heads
+    weighable c.requires c.first-first.ensures c.others-rest.ensures (inside _ _ c.if-some-set.false) c.loop-set.taken c.loop-set.heads
+    known rooms heads
     c.with_hours-after.ensures c.with_hours-head.ensures c.loop-set.invariant.0 c.loop-set-test.true
 
 pub loop-set-preserved : goal.loop-set-preserved

@@ -49,6 +49,8 @@ pub returns : goal.returns
 returns c =
     let yes = c.requires in
     let all = all_value _ (sound_held _ yes) 0 _ c.weigh_all-values.ensures in
-    surpluses_found _ _ _ _ refl (held_shaped _) (listed (goal.at.returns c).Else-not-is_rising).few (good (goal.at.returns c).Else-not-is_rising) _ _ all
-    (table_done _ _ _ _ _ _ _ _ (sound_held _ yes) c.discards-discards.ensures (ended (goal.at.returns c).After-sets_end) all c.weigh_all-values.ensures
+    surpluses_found _ _ _ _ refl (held_shaped _) (listed (goal.at.returns c).Else-not-is_rising).few
+    (good (goal.at.returns c).Else-not-is_rising) _ _ all
+    (table_done _ _ _ _ _ _ _ _ (sound_held _ yes) c.discards-discards.ensures (ended (goal.at.returns c).After-sets_end) all
+    c.weigh_all-values.ensures
     c.sigma_by-sigma.ensures)

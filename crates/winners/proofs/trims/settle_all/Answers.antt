@@ -10,9 +10,9 @@ pub loop-c-init : goal.loop-c-init
 loop-c-init c = (
   omega arith,
   omega arith,
-  c.requires.rows_len.0,
-  c.requires.rows_len.1,
-  c.requires.by_index,
+  c.requires.long.0,
+  c.requires.long.1,
+  c.requires.some_rows,
   λ m wt k n few held. (held, λ t a l. absurd (omega arith)),
 )
 

@@ -17,7 +17,14 @@ use Rattle.winners.proofs.Refusals.{refusal_none}
 use Rattle.winners.proofs.SetValues.{all_value, discards_few, table_done}
 use Rattle.winners.proofs.WeighedAnswers.{chosen_bids, weighed_refused, weighed_none, weighed_less, weighed_found}
 use Rattle.winners.proofs.weighing.weigh.Goals as goal
-use Rattle.winners.proofs.weighing.weigh.Goals.{After-owners_of-clients, After-sets_end, After-weigh_all-values, Else-not-is_choice, Else-number-gt0, Start}
+use Rattle.winners.proofs.weighing.weigh.Goals.{
+  After-owners_of-clients,
+  After-sets_end,
+  After-weigh_all-values,
+  Else-not-is_choice,
+  Else-number-gt0,
+  Start,
+}
 
 six_bids : (c : Start) → length c.args.bids ≡ 6
 six_bids c = search rules
@@ -42,7 +49,8 @@ returns-then-number-gt0 c =
 pub returns-then-not-is_choice : goal.returns-then-not-is_choice
 returns-then-not-is_choice c =
     let z = c.refused-then-not-is_choice.ensures in
-    weighed_none _ (held_shaped _) _ _ _ _ (none (goal.at.returns-then-not-is_choice c).Else-number-gt0) (sym c.is_choice.ensures ∙ c.if-not-is_choice.true)
+    weighed_none _ (held_shaped _) _ _ _ _ (none (goal.at.returns-then-not-is_choice c).Else-number-gt0)
+    (sym c.is_choice.ensures ∙ c.if-not-is_choice.true)
     (record { number_is = z.0; value = z.1; clients = z.2; sigma = z.3 })
 
 -- the value of all clients
@@ -53,7 +61,8 @@ all c = all_value _ (sound_held _ (none c.before.before.before.before)) 0 _ c.we
 pub returns-then-worth-value : goal.returns-then-worth-value
 returns-then-worth-value c =
     let z = c.refused-then-worth-value.ensures in
-    weighed_less _ (held_shaped _) _ _ _ _ (none (goal.at.returns-then-worth-value c).Else-number-gt0) (good (goal.at.returns-then-worth-value c).Else-not-is_choice)
+    weighed_less _ (held_shaped _) _ _ _ _ (none (goal.at.returns-then-worth-value c).Else-number-gt0)
+    (good (goal.at.returns-then-worth-value c).Else-not-is_choice)
     (λ e. c.if-worth-value.true (c.value_of-worth.ensures ∙ e ∙ sym (all (goal.at.returns-then-worth-value c).After-weigh_all-values)))
     (record { number_is = z.0; value = z.1; clients = z.2; sigma = z.3 })
 
@@ -64,7 +73,8 @@ listed c =
     let a = c.args in
     let is = chosen_bids _ (held_shaped _) _ _ (good c.before.before.before.before) in
     rw c.owners_of-clients.ensures
-    (owners_listed (book_of a.book) a.bids a.count is.few (six_bids c.before.before.before.before.before.before.before.before) (sound_held _ (none c.before.before.before.before.before.before))
+    (owners_listed (book_of a.book) a.bids a.count is.few (six_bids c.before.before.before.before.before.before.before.before)
+    (sound_held _ (none c.before.before.before.before.before.before))
     is.combination is.rising)
 
 pub value_of-worth-requires : goal.value_of-worth-requires
@@ -98,7 +108,9 @@ returns c =
     let cut = ap (λ (cs : List ℕ). take a.count cs) c.owners_of-clients.ensures
     ∙ owners_take (book_of a.book) a.bids a.count (few (goal.at.returns c).Else-not-is_choice) (six_bids (goal.at.returns c).Start) in
     weighed_found _ (held_shaped _) _ _ _ _ sound (good (goal.at.returns c).Else-not-is_choice)
-    (sym c.value_of-worth.ensures ∙ c.if-worth-value.false ∙ all (goal.at.returns c).After-weigh_all-values) refl (all (goal.at.returns c).After-weigh_all-values) c.owners_of-clients.ensures
-    (table_done _ _ _ _ _ _ _ _ (sound_held _ sound) c.discards-discards.ensures (ended (goal.at.returns c).After-sets_end) (all (goal.at.returns c).After-weigh_all-values) c.weigh_all-values.ensures
+    (sym c.value_of-worth.ensures ∙ c.if-worth-value.false ∙ all (goal.at.returns c).After-weigh_all-values) refl
+    (all (goal.at.returns c).After-weigh_all-values) c.owners_of-clients.ensures
+    (table_done _ _ _ _ _ _ _ _ (sound_held _ sound) c.discards-discards.ensures (ended (goal.at.returns c).After-sets_end)
+    (all (goal.at.returns c).After-weigh_all-values) c.weigh_all-values.ensures
     c.sigma_by-sigma.ensures
     ∙ ap (λ (cs : List ℕ). surplus_table (book_of a.book) cs a.count) cut)
