@@ -16,11 +16,22 @@ class Piece:
 
     def targets(self, tree):
         """The structs of its types, and what its contract speaks of."""
-        signature, *promises = re.split(r"\b(?:ensures|requires)\b", self.text)
+        # a clause's name, where it has one, stands before its brace
+        signature, *promises = re.split(r"\b(?:ensures|requires)\b[^{]*", self.text)
         structs = [tree.code(self.file, [name], "structs") for name in re.findall(r"\b[A-Z]\w+", signature) if name != self.name]
-        arguments = set(re.findall(r"(\w+):", signature))
+        arguments = {"result", *re.findall(r"(\w+):", signature)}
         names = [name for promise in promises for name in free_in(tokens_of(promise), arguments)[0]]
         return [struct for struct in structs if struct] + tree.found(names, self, lambda name: self.file.ghosts.find(tree, name))
+
+
+def uses_of(path, text):
+    """The paths that the `use` lines bring in, each with whether it is public: `a::b` one, and `a::{b, c}` two."""
+    lines = re.findall(r"^(pub )?(?:pub\(\w+\) )?use ([\w:]+?)(?:::\{([\w\s,]*)\})?;", text, re.M)
+    if len(lines) != len(re.findall(r"^(?:pub(?:\(\w+\))? )?use ", text, re.M)):
+        raise Wrong(f"{path}: a `use` of a form that .ci/trust does not know")
+    for public, first, listed in lines:
+        for name in re.findall(r"\w+", listed) or ["self"]:
+            yield [part for part in [*first.split("::"), name] if part != "self"], bool(public)
 
 
 class Code:
@@ -29,8 +40,7 @@ class Code:
     def __init__(self, path, text, crate, modules):
         self.path, self.crate, self.modules, self.lines = path, crate, modules, text.splitlines()
         self.inner = {name: bool(public) for public, name in re.findall(r"^(pub )?mod (\w+);", text, re.M)}
-        self.uses = {used.split("::")[-1]: (used.split("::"), bool(public))
-                     for public, used in re.findall(r"^(pub )?use ([\w:]+);", text, re.M)}
+        self.uses = {used[-1]: (used, public) for used, public in uses_of(path, text)}
         self.ghosts = Uses(path)
         self.functions, self.structs, self.public = {}, {}, []
         for at, line in enumerate(self.lines):

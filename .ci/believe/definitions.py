@@ -1,6 +1,6 @@
 """Files of definitions (.antt): what each defines, and what each definition speaks of."""
 import re
-from believe.names import free_in, is_name, tokens_of
+from believe.names import free_in, head_of, is_name, tokens_of
 
 MODIFIERS = {"pub", "unfoldable", "abbrev"}
 
@@ -21,8 +21,8 @@ class Uses:
         if listed:
             for name in listed[2].split(","):
                 there, _, here = name.strip().partition(" as ")
-                # an operator, as _+_, is seen by its signs
-                for visible in filter(None, (here or there).split("_")):
+                # an operator, as ◌+◌, is seen by its signs
+                for visible in filter(None, (here or there).split("◌")):
                     self.names[visible] = (listed[1], there)
         elif renamed:
             self.modules[renamed[2]] = renamed[1]
@@ -30,11 +30,11 @@ class Uses:
             raise Wrong(f"{self.path}: '{line}' is a `use` of a form that .ci/trust does not know")
 
     def find(self, tree, name):
-        """An item, or the kit's own name for it, or nothing."""
-        if name in self.names:
-            return tree.defined(*self.names[name], self.path)
-        module, _, last = name.rpartition(".")
-        return tree.defined(self.modules[module], last, self.path) if module in self.modules else None
+        """An item, or the kit's own name for it, or nothing. Behind a name stand fields, and behind a renamed module what it has."""
+        head, _, behind = name.partition(".")
+        if head in self.names:
+            return tree.defined(*self.names[head], self.path)
+        return tree.defined(self.modules[head], head_of(behind), self.path) if head in self.modules else None
 
 
 class Definition:
@@ -122,7 +122,7 @@ class Definitions:
         return self.items.get(name) or (data[0] if data else None)
 
     def find(self, tree, name):
-        return self.item(name) or self.uses.find(tree, name)
+        return self.item(head_of(name)) or self.uses.find(tree, name)
 
     def is_constructor(self, tree, name):
         """Whether a name in a pattern is one that is known, and no variable; of the kit's any name is taken for one."""

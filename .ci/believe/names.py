@@ -2,19 +2,25 @@
 import re
 
 # words and signs of the language itself and of its prelude, which no `use` line brings in
-LANGUAGE = set("→ × ¬ = : _ | ↦ λ let in record elim Type Unit now ⌜ ⌝ ( ) { } [ ] ; , .".split())
+LANGUAGE = set("→ × ¬ = : _ | ↦ λ let in record elim Type Unit ( ) { } [ ] ; , .".split())
 
 
 def tokens_of(text):
-    """Words, brackets and marks. `.field` stays one token; a dot that ends the names after a λ is one of its own."""
+    """Words, brackets and marks. `b.field` stays one token, and so does the `.field` of `(f x).field`; a dot that ends the names after a λ
+    is one of its own."""
     tokens = []
-    for word in re.findall(r"\[\]|[()\[\]{};,⌜⌝]|[^\s()\[\]{};,⌜⌝]+", text):
+    for word in re.findall(r"\[\]|[()\[\]{};,]|[^\s()\[\]{};,]+", text):
         tokens += [word[:-1], "."] if len(word) > 1 and word.endswith(".") else [word]
     return tokens
 
 
 def is_name(token):
     return token not in LANGUAGE and not token.startswith(".") and not token[0].isdigit()
+
+
+def head_of(name):
+    """`b` of `b.field`."""
+    return name.partition(".")[0]
 
 
 def binders_at(tokens, at):
@@ -55,6 +61,6 @@ def free_in(tokens, bound):
             lets.append(token)
         elif after == "=" and brackets and brackets[-1][1]:
             continue
-        elif not any(token in scope for scope in scopes):
+        elif not any(head_of(token) in scope for scope in scopes):
             free.append(token)
     return free, scopes[0]

@@ -9,18 +9,19 @@ SIZE, COUNT = "crates/base/specs/Size.antt", "crates/base/specs/Count.antt"
 STRUCT, TOP, PART = "crates/base/src/size.rt", "crates/top/src/lib.rt", "crates/top/src/part.rt"
 
 SMALL = {
-    "crates.txt": "# two crates\nbase:\ntop: base\n",
-    "crates/base/src/lib.rt": "mod size;\npub use size::Size;\npub use size::size_of;\n",
-    STRUCT: """ghost use Rattle·base·specs.specs.Size.{Size-is};
+    "crates.txt": "# two crates\nbase:\ntop staticlib: base\n",
+    "crates/base/src/lib.rt": "mod size;\npub use size::{\n    Size,\n    size_of,\n};\n",
+    STRUCT: """ghost use Rattle.base.specs.Size.{SizeIs};
 
 // How large.
+#[derive(Clone, Copy)]
 pub struct Size {
     pub n: u64,
 }
 
 // The size of bytes.
 pub fn size_of(s: &[u8]) -> Size
-    ensures { λ r. ⌜ Size-is (now (s .entry)) r ⌝ }
+    ensures { SizeIs s.now result }
 {
     Size { n: own(s) }
 }
@@ -33,11 +34,9 @@ fn own(
 """,
     # here `idle` is a field's argument, and there a name in a pattern: neither is the definition of that name
     SIZE: """-- Sizes.
-use mathlib.Core.Path.{_≡_}
-use mathlib.Core.List.{List}
-use Prim.Native.Nat.{ℕ, zero, suc, _+_}
-use Rattle·base·specs.specs.declared.size.Size.{Size as Found}
-use Rattle·base·specs.specs.Count as Other·
+use Rattle.std.specs.Prelude.{◌≡◌, List, ℕ, zero, suc, ◌+◌}
+use Rattle.base.specs.declared.size.Size.{Size as Found}
+use Rattle.base.specs.Count as Other·
 
 -- two for each
 unfoldable pub twice : ℕ → ℕ
@@ -48,13 +47,12 @@ twice (suc n) = 2 + twice n
 unfoldable pub idle : ℕ → ℕ
 idle n = n
 
-pub record Size-is (s : List ℕ) (r : Found) : Type 0 where
+pub record SizeIs (s : List ℕ) (r : Found) : Type 0 where
   -- by value
-  pub sized : (idle : ℕ) → r .n ≡ twice (Other·.count s)
+  pub sized : (idle : ℕ) → r.n ≡ twice (Other·.count s)
 """,
     COUNT: """-- Counts.
-use mathlib.Core.List.{List, [], _∷_}
-use Prim.Native.Nat.{ℕ, _+_}
+use Rattle.std.specs.Prelude.{List, [], ◌∷◌, ℕ, ◌+◌}
 
 module _ {A : Type 0} where
   -- how many
@@ -66,11 +64,11 @@ unfoldable pub idle : ℕ
 idle = 7
 """,
     TOP: """use base::Size;
-ghost use Rattle·base.specs.Size.{Size-is};
+ghost use Rattle.base.specs.Size.{SizeIs};
 pub mod part;
 
 pub fn top(s: &[u8]) -> Size
-    ensures { λ r. ⌜ Size-is (now (s .entry)) r ⌝ }
+    ensures { SizeIs s.now result }
 {
     base::size_of(s)
 }
@@ -79,13 +77,13 @@ pub fn top(s: &[u8]) -> Size
 }
 
 pub fn outer()
-    ensures { λ r. ⌜ Unit ⌝ }
+    ensures { Unit }
 {
 }
 
-#[no_mangle]
+#[unsafe(no_mangle)]
 pub extern "C" fn exported()
-    ensures { λ r. ⌜ Unit ⌝ }
+    ensures { Unit }
 {
 }
 """,
@@ -102,35 +100,45 @@ pub extern "C" fn exported()
 # what is changed: a file, some text of it, and other text; and what must be said of it
 WRONG = [
     # the table
-    ("a row is missing", [(page.PAGE, "| base/specs/Count.antt | 4 | 12 |\n", "")],
-     "does not say '| base/specs/Count.antt | 4 | 12 |'"),
+    ("a row is missing", [(page.PAGE, "| base/specs/Count.antt | 4 | 11 |\n", "")],
+     "does not say '| base/specs/Count.antt | 4 | 11 |'"),
     ("a number is wrong", [(page.PAGE, "Size.antt | 7 |", "Size.antt | 6 |")],
-     "says '| base/specs/Size.antt | 6 | 19 |'"),
+     "says '| base/specs/Size.antt | 6 | 17 |'"),
     ("a row too many", [(page.PAGE, "| together", "| base/specs/Idle.antt | 1 | 1 |\n| together")],
      "says '| base/specs/Idle.antt | 1 | 1 |'"),
-    ("a row twice", [(page.PAGE, "| together", "| base/specs/Size.antt | 7 | 19 |\n| together")],
+    ("a row twice", [(page.PAGE, "| together", "| base/specs/Size.antt | 7 | 17 |\n| together")],
      "not as they should stand"),
     ("a mark is gone", [(page.PAGE, page.END, "")],
      "wants one line"),
     # what is reached
     ("a definition has grown", [(SIZE, "twice zero", "-- none\ntwice zero")],
-     "does not say '| base/specs/Size.antt | 8 | 20 |'"),
+     "does not say '| base/specs/Size.antt | 8 | 18 |'"),
     ("a file has grown", [(SIZE, "idle n = n", "idle n =\n  n")],
-     "does not say '| base/specs/Size.antt | 7 | 20 |'"),
+     "does not say '| base/specs/Size.antt | 7 | 18 |'"),
     ("a struct has grown", [(STRUCT, "    pub n: u64,", "    pub n: u64,\n    pub m: u64,")],
-     "does not say '| base/src/size.rt | 5 | 20 |'"),
+     "does not say '| base/src/size.rt | 6 | 21 |'"),
     ("a definition is cited now", [(SIZE, "2 + twice n", "idle 2 + twice n")],
-     "does not say '| base/specs/Size.antt | 10 | 19 |'"),
+     "does not say '| base/specs/Size.antt | 10 | 17 |'"),
     ("one is cited in a binder's type", [(SIZE, "2 + twice n", "(λ (n : idle). 2) n")],
-     "does not say '| base/specs/Size.antt | 10 | 19 |'"),
+     "does not say '| base/specs/Size.antt | 10 | 17 |'"),
+    ("one is cited of which a field is taken", [(SIZE, "2 + twice n", "2 + idle.n")],
+     "does not say '| base/specs/Size.antt | 10 | 17 |'"),
+    ("one is cited in brackets of which a field is taken", [(SIZE, "2 + twice n", "2 + (idle n).n")],
+     "does not say '| base/specs/Size.antt | 10 | 17 |'"),
+    ("one is cited in the second of two clauses",
+     [(TOP, "{SizeIs}", "{SizeIs, idle}"),
+      (TOP, "    ensures", "    ensures sized { SizeIs s.now result }\n    ensures rest { idle result.n }\n    ensures again")],
+     "does not say '| base/specs/Size.antt | 10 | 17 |'"),
     ("a definition is cited no more", [(SIZE, "twice (Other·.count s)", "Other·.count s")],
-     "does not say '| base/specs/Size.antt | 3 | 19 |'"),
-    ("a contract rests on a proof", [(SIZE, "·specs.specs.Count as", ".proofs.Count as")],
+     "does not say '| base/specs/Size.antt | 3 | 17 |'"),
+    ("a contract rests on a proof", [(SIZE, ".specs.Count as", ".proofs.Count as")],
      "of crates/base/proofs/Count.antt"),
     ("a name that nothing defines", [(COUNT, "1 + more", "1 + less")],
      "count speaks of `less`, which nothing defines"),
     ("an entry is gone", [(TOP, "pub fn top", "pub fn tip")],
      "there is no public function `top::top`"),
+    ("a `use` of the code is of another form", [(TOP, "use base::Size;", "use base::*;")],
+     "crates/top/src/lib.rt: a `use` of a form that .ci/trust does not know"),
     # the public functions
     ("one is in no row", [(page.PAGE, "; `base::size_of`", "")],
      "no row of docs/TRUST.md names `base::size_of`"),
@@ -144,9 +152,9 @@ WRONG = [
      "names `base::gone`, and no public function is called so"),
     ("a row names all at once", [(page.PAGE, "`top::part::outer`, `exported`", "`top::part::*`")],
      "no row of docs/TRUST.md names `top::part::outer`"),
-    ("one asks", [(TOP, "    ensures", "    requires { ⌜ Size-is ⌝ }\n    ensures")],
+    ("one asks", [(TOP, "    ensures", "    requires { SizeIs }\n    ensures")],
      "`top::top` is public and has a `requires`"),
-    ("one promises nothing", [(PART, "outer()\n    ensures { λ r. ⌜ Unit ⌝ }\n{", "outer() {")],
+    ("one promises nothing", [(PART, "outer()\n    ensures { Unit }\n{", "outer() {")],
      "`top::part::outer` is public and has no `ensures`"),
 ]
 

@@ -14,7 +14,8 @@ class Tree:
         self.root, self.files = Path(root), {}
         self.kit = {}  # names of the kit's, by module, that were met on the way
         lines = self.text("crates.txt").splitlines()
-        self.crates = [line.split(":")[0] for line in lines if ":" in line and not line.startswith("#")]
+        # behind a name may stand what kind of crate it is, as `staticlib`
+        self.crates = [line.split(":")[0].split()[0] for line in lines if ":" in line and not line.startswith("#")]
 
     def text(self, path):
         return (self.root / path).read_text()
@@ -35,11 +36,11 @@ class Tree:
 
     def defined(self, module, name, by):
         """What a module of the definitions has under a name: an item, or nothing. Of the kit, the name in full."""
-        if not module.startswith("Rattle·"):
+        own = re.fullmatch(r"Rattle[.](\w+)[.](\w+)[.](.+)", module)
+        if own is None or own[1] not in self.crates:
             self.kit.setdefault(module, set()).add(name)
             return f"{module}.{name}"
-        # the crate's own files stand under `Rattle·NAME·specs.specs`, those of the others under `Rattle·NAME.specs`
-        crate, folder, *rest = re.sub("·(specs|proofs)[.]", ".", module)[len("Rattle·"):].split(".")
+        crate, folder, rest = own[1], own[2], own[3].split(".")
         if folder != "specs":
             raise Wrong(f"{by} speaks of `{name}` of crates/{crate}/{folder}/{'/'.join(rest)}.antt: a contract rests on specs/ alone")
         if rest[0] == "declared":
