@@ -5,7 +5,6 @@ use mathlib.Core.Bool.{true, and-true, and-eq-true_iff}
 use mathlib.Core.List.{List}
 use Prim.Native.Nat.{ℕ, ◌<◌}
 use native.Mathlib.Nat.{le_trans, le_of_eq, le_antisymm}
-use native.Mathlib.Omega.{arith}
 use lib.ListN.{length}
 use Rattle.market.specs.Market.{Market, at, fits, Supplied}
 use Rattle.market.specs.Greatest.{best}

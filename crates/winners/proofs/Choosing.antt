@@ -9,7 +9,7 @@ use borrow.Author.Tests.{leb-true}
 use lib.Dec.{leb, ltb}
 use lib.ListN.{length}
 use Rattle.book.specs.Book.{Book, bid_at, client_of, clients, standing}
-use Rattle.market.specs.Market.{at, fits, less}
+use Rattle.market.specs.Market.{fits, less}
 use Rattle.market.specs.Combination.{rising_from}
 use Rattle.market.specs.Combination.{worth}
 use Rattle.winners.specs.Combinations.{market}

@@ -1,6 +1,5 @@
 -- `listing::push_winners` meets its contract. The loop keeps that the lines of the winners passed are pushed. Assumes nothing.
 use Rattle.listing.proofs.Pushing.{winners_none, winners_more}
-use Prim.Native.Nat.{◌-◌}
 use native.Mathlib.Nat.{le_antisymm}
 use borrow.Author.Rules.{rules}
 use Rattle.listing.proofs.push_winners.Goals as goal

@@ -3,7 +3,6 @@ use Rattle.text.specs.Text.{pushes}
 use Rattle.listing.proofs.Pushing.{word_none, word_more}
 use mathlib.Core.Path.{ap, ◌∙◌}
 use lib.Seq.{take_all}
-use Prim.Native.Nat.{◌-◌}
 use borrow.Author.Rules.{rules}
 use Rattle.listing.proofs.push_word.Goals as goal
 

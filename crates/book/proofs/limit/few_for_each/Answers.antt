@@ -1,8 +1,7 @@
 -- `limit::few_for_each` meets its contract. The loop goes on while no client passed has too many bids. Assumes nothing.
 use borrow.Author.Rules.{rules}
 use mathlib.Core.Path.{refl, sym, ◌∙◌}
-use mathlib.Core.Bool.{true}
-use Prim.Native.Nat.{◌+◌, ◌-◌}
+use Prim.Native.Nat.{◌+◌}
 use native.Mathlib.Nat.{le_antisymm}
 use Rattle.book.specs.Lists.{all_to}
 use Rattle.book.proofs.Tally.{few_named, few_under, few_over, few_next, one_over, few_for_bids}

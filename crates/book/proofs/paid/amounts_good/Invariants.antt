@@ -1,7 +1,7 @@
 -- What the loop of `paid::amounts_good` keeps. Assumes nothing.
 use mathlib.Core.Path.{◌≡◌}
 use mathlib.Core.List.{List}
-use Prim.Native.Nat.{ℕ, ◌+◌, ◌-◌}
+use Prim.Native.Nat.{ℕ, ◌+◌}
 use Rattle.book.specs.Lists.{all, row}
 use Rattle.book.specs.Questions.{reserves_met}
 use Rattle.book.specs.Value.{kind_held, bid_held}

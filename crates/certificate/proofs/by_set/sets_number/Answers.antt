@@ -1,6 +1,6 @@
 -- `by_set::sets_number` meets its contract. The invariant: `within` and `tight` are the tests of the sets passed. Assumes nothing.
 use mathlib.Core.Path.{refl, ◌∙◌}
-use Prim.Native.Nat.{◌-◌, ◌*◌, ◌≤◌}
+use Prim.Native.Nat.{◌*◌, ◌≤◌}
 use native.Mathlib.Nat.{mul-le-mul}
 use Rattle.pricing.specs.Questions.{test}
 use Rattle.pricing.specs.Ranges.{most_scale}

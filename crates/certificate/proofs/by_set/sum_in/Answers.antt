@@ -1,6 +1,6 @@
 -- `by_set::sum_in` meets its contract. The invariant: `added` is the sum over the members passed. Assumes nothing.
 use mathlib.Core.Path.{refl, ◌∙◌}
-use Prim.Native.Nat.{◌-◌, ◌≤◌}
+use Prim.Native.Nat.{◌≤◌}
 use Rattle.sets.specs.Sums.{sum}
 use Rattle.sets.specs.Sets.{has, sum_in}
 use Rattle.sets.proofs.Members.{and_mask}

@@ -1,6 +1,5 @@
 -- `duals::all_covered` meets its contract. The invariant: `ok` is the test of the winners passed. Assumes nothing.
 use mathlib.Core.Path.{refl}
-use Prim.Native.Nat.{◌-◌}
 use Rattle.pricing.specs.Questions.{every, test}
 use Rattle.certificate.proofs.Steps.{every_more, every_end}
 use borrow.Author.Rules.{rules}

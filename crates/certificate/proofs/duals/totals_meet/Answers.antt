@@ -1,7 +1,7 @@
 -- `duals::totals_meet` meets its contract: no product is above 4 * 10^16. The invariant: `winners` and `given` are the sums over the
 -- winners passed. Assumes nothing.
 use mathlib.Core.Path.{refl}
-use Prim.Native.Nat.{ℕ, ◌<◌, ◌-◌, ◌+◌, ◌*◌, ◌≤◌}
+use Prim.Native.Nat.{ℕ, ◌<◌, ◌+◌, ◌*◌, ◌≤◌}
 use native.Mathlib.Nat.{mul-le-mul}
 use Rattle.sets.specs.Sums.{sum}
 use Rattle.pricing.specs.Questions.{test}
@@ -9,7 +9,6 @@ use Rattle.pricing.specs.Ranges.{most_scale, most_discount}
 use Rattle.pricing.specs.Certificate.{Certificate}
 use Rattle.certificate.specs.Readiness.{Ready}
 use Rattle.certificate.specs.Bounds.{most_rho, most_sigma}
-use Rattle.certificate.specs.Figures.{at}
 use Rattle.certificate.proofs.Steps.{sum_more, sum_end}
 use native.Mathlib.Omega.{arith}
 use borrow.Author.Rules.{rules}

@@ -1,6 +1,5 @@
 -- `most::sets_at_most` meets its contract. The invariant: `ok` is the test of the sets passed. Assumes nothing.
 use mathlib.Core.Path.{refl}
-use Prim.Native.Nat.{◌-◌}
 use native.Mathlib.Omega.{arith}
 use borrow.Author.Rules.{rules}
 use Rattle.pricing.specs.Ranges.{sets_at_most}

@@ -1,6 +1,5 @@
 -- `most::winners_at_most` meets its contract. The invariant: `ok` is the test of the winners passed. Assumes nothing.
 use mathlib.Core.Path.{refl}
-use Prim.Native.Nat.{◌-◌}
 use borrow.Author.Rules.{rules}
 use Rattle.pricing.specs.Questions.{every}
 use Rattle.pricing.specs.Ranges.{winners_at_most}

@@ -1,6 +1,6 @@
 -- `nearest::all_balanced` meets its contract. The invariant: `ok` is the test of the winners passed. Assumes nothing.
 use mathlib.Core.Path.{◌≡◌, refl, ◌∙◌}
-use Prim.Native.Nat.{ℕ, ◌-◌, ◌*◌, ◌%◌, ◌^◌, ◌≤◌, ◌<◌}
+use Prim.Native.Nat.{ℕ, ◌*◌, ◌%◌, ◌^◌, ◌≤◌, ◌<◌}
 use Rattle.sets.specs.Sets.{single}
 use Rattle.pricing.specs.Questions.{every}
 use Rattle.certificate.specs.Figures.{at}

@@ -1,6 +1,6 @@
 -- `slack::winners_slack` meets its contract. The invariant: `reserves` and `zeros` are the tests of the winners passed. Assumes nothing.
 use mathlib.Core.Path.{refl}
-use Prim.Native.Nat.{◌-◌, ◌*◌, ◌≤◌}
+use Prim.Native.Nat.{◌*◌, ◌≤◌}
 use native.Mathlib.Nat.{mul-le-mul}
 use Rattle.pricing.specs.Questions.{every, test}
 use Rattle.pricing.specs.Ranges.{most_scale}

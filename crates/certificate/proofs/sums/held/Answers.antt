@@ -1,6 +1,6 @@
 -- `sums::held` meets its contract. The invariant: `added` is the sum over the sets passed. Assumes nothing.
 use mathlib.Core.Path.{◌∙◌}
-use Prim.Native.Nat.{◌-◌, ◌≤◌}
+use Prim.Native.Nat.{◌≤◌}
 use Rattle.sets.specs.Sets.{has, holding}
 use Rattle.sets.proofs.Members.{and_mask}
 use Rattle.pricing.specs.Ranges.{most_multiplier}

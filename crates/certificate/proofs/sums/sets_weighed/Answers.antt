@@ -1,6 +1,6 @@
 -- `sums::sets_weighed` meets its contract. The invariant: `added` is the sum over the sets passed. Assumes nothing.
 use mathlib.Core.Path.{refl}
-use Prim.Native.Nat.{◌-◌, ◌*◌, ◌^◌, ◌≤◌, ◌<◌}
+use Prim.Native.Nat.{◌*◌, ◌^◌, ◌≤◌, ◌<◌}
 use Rattle.pricing.specs.Ranges.{most_scale}
 use Rattle.certificate.specs.Bounds.{most_sigma}
 use Rattle.certificate.specs.Figures.{at}

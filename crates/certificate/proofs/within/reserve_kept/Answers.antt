@@ -1,6 +1,6 @@
 -- `within::reserve_kept` meets its contract. The invariant: `ok` is the test of the winners passed. Assumes nothing.
 use mathlib.Core.Path.{refl}
-use Prim.Native.Nat.{◌-◌, ◌*◌, ◌≤◌}
+use Prim.Native.Nat.{◌*◌, ◌≤◌}
 use native.Mathlib.Nat.{mul-le-mul}
 use Rattle.pricing.specs.Questions.{every}
 use Rattle.pricing.specs.Ranges.{most_scale}

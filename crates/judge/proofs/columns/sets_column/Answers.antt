@@ -1,6 +1,6 @@
 -- `columns::sets_column` meets its contract. The loop keeps the numbers of the sets that are in. Assumes nothing.
 use mathlib.Core.Path.{sym, ap, ◌∙◌}
-use Prim.Native.Nat.{ℕ, ◌-◌, ◌^◌}
+use Prim.Native.Nat.{ℕ, ◌^◌}
 use native.Mathlib.Nat.{min-eq_left}
 use native.Mathlib.Omega.{arith}
 use Rattle.demands.specs.Sheet.{set_place}

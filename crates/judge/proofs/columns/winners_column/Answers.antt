@@ -1,5 +1,4 @@
 -- `columns::winners_column` meets its contract. The loop keeps the numbers that are in. Assumes nothing.
-use Prim.Native.Nat.{◌-◌}
 use native.Mathlib.Omega.{arith}
 use Rattle.demands.specs.Sheet.{winner_place}
 use Rattle.sets.proofs.Filled.{filled_none, filled_next}

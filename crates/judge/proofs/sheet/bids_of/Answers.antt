@@ -1,6 +1,6 @@
 -- `sheet::bids_of` meets its contract. The loop keeps the bid numbers that are in. Assumes nothing.
 use mathlib.Core.Path.{ap, ◌∙◌}
-use Prim.Native.Nat.{ℕ, ◌-◌, min}
+use Prim.Native.Nat.{ℕ, min}
 use native.Mathlib.Nat.{le_antisymm}
 use native.Mathlib.Omega.{arith}
 use Rattle.sets.proofs.Filled.{filled_none, filled_next}

@@ -1,7 +1,6 @@
 -- `choice::owners_of` meets its contract. The loop keeps the clients of the bids passed. Assumes nothing.
 use borrow.Author.Rules.{rules}
 use mathlib.Core.Path.{refl}
-use Prim.Native.Nat.{◌-◌}
 use native.Mathlib.Nat.{le_antisymm}
 use Rattle.sets.proofs.Filled.{filled_none, filled_next}
 use Rattle.winners.proofs.Six.{six_done}

@@ -1,7 +1,6 @@
 -- `choice::value_of` meets its contract. The loop keeps the sum so far with that of the bids left. Assumes nothing.
 use borrow.Author.Rules.{rules}
 use mathlib.Core.Path.{refl}
-use Prim.Native.Nat.{◌-◌}
 use Rattle.sets.proofs.Prefixes.{prefix_next, prefix_done}
 use Rattle.winners.proofs.Choosing.{worth_next, worth_done}
 use Rattle.book.specs.Value.{book_of}

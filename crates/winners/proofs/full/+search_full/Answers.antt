@@ -11,7 +11,7 @@ use Rattle.winners.specs.Full.{Searchable, Searched}
 use Rattle.winners.specs.Lanes.{guards}
 use Rattle.winners.specs.Rows.{counts_from, weight_at, asked_at}
 use Rattle.winners.proofs.Searching.{Found, somebody, found_first, found_falls, found_left, found_taken, found_end}
-use Rattle.winners.proofs.Searching.{top_few, place_few, weight_few, hours_few, searchable_next}
+use Rattle.winners.proofs.Searching.{top_few, weight_few, hours_few, searchable_next}
 use Rattle.winners.proofs.full.+search_full.Goals as goal
 use Rattle.winners.proofs.full.+search_full.Goals.{
   then-ahead-eq3,

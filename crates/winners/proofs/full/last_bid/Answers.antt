@@ -1,6 +1,6 @@
 -- `full::last_bid` meets its contract. The loop keeps that no bid passed beats the floor, in every market that the rows lay out. Assumes
 -- nothing.
-use Prim.Native.Nat.{ℕ, ◌-◌, ◌<◌}
+use Prim.Native.Nat.{ℕ, ◌<◌}
 use native.Mathlib.Omega.{arith}
 use Rattle.winners.specs.ClientSets.{First}
 use Rattle.winners.specs.Full.{Searchable}

@@ -1,7 +1,6 @@
 -- `lists::double` meets its contract. The loop keeps the first entries and those repeated so far. Assumes nothing.
 use borrow.Author.Rules.{rules}
 use mathlib.Core.Path.{refl}
-use Prim.Native.Nat.{◌-◌}
 use native.Mathlib.Omega.{arith}
 use native.Mathlib.Nat.{le_antisymm}
 use Rattle.winners.proofs.Doubling.{doubled_next}

@@ -2,7 +2,6 @@
 use borrow.Author.Rules.{rules}
 use borrow.Author.Tests.{le-leb, lt-leb}
 use mathlib.Core.Path.{refl}
-use Prim.Native.Nat.{◌-◌}
 use Rattle.sets.proofs.Prefixes.{prefix_next, prefix_done}
 use Rattle.winners.proofs.Rising.{rising_next, rising_done}
 use Rattle.winners.proofs.lists.is_rising.Goals as goal

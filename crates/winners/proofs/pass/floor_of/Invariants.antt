@@ -1,6 +1,6 @@
 -- What the loop of `pass::floor_of` keeps. Assumes nothing.
 use mathlib.Core.Path.{◌≡◌}
-use Prim.Native.Nat.{◌+◌, ◌-◌, ◌<◌}
+use Prim.Native.Nat.{◌+◌, ◌<◌}
 use lib.ListN.{length}
 use Rattle.winners.specs.ClientSets.{clients_in, Within}
 use Rattle.winners.specs.Passes.{FloorPast}

@@ -8,7 +8,7 @@ use native.Mathlib.Nat.{le_antisymm}
 use native.Mathlib.Omega.{arith}
 use lib.Bits.{bit_and, and_le_l}
 use lib.Dec.{eqb}
-use lib.ListN.{length, get_or, set, length-replicate, length-set}
+use lib.ListN.{get_or, length-replicate, length-set}
 use Rattle.winners.specs.ClientSets.{First, Others, Within}
 use Rattle.winners.specs.Lanes.{Asked, guards}
 use Rattle.winners.specs.Passes.{ValuesTo, Weighable, Passable, head_hours}

@@ -1,7 +1,7 @@
 -- What the loop of `pass::weigh_sets` keeps. Assumes nothing.
 use mathlib.Core.Path.{◌≡◌}
 use Prim.Native.Nat.{◌-◌, ◌≤◌}
-use lib.ListN.{length, set}
+use lib.ListN.{length}
 use Rattle.winners.specs.Passes.{ValuesTo, Passable, head_hours}
 use Rattle.winners.specs.Taken.{TakenTo}
 use Rattle.winners.proofs.pass.weigh_sets.Given as goal

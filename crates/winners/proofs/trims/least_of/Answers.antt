@@ -1,6 +1,6 @@
 -- `trims::least_of` meets its contract. The loop keeps hours that each bid passed asks for at least. Assumes nothing.
 use mathlib.Core.Path.{refl}
-use Prim.Native.Nat.{◌-◌, ◌<◌}
+use Prim.Native.Nat.{◌<◌}
 use native.Mathlib.Omega.{arith}
 use Rattle.winners.proofs.Trimming.{least_first, least_next, least_done, some_asked, some_least}
 use Rattle.winners.proofs.trims.least_of.Goals as goal

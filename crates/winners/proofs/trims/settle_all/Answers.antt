@@ -1,5 +1,5 @@
 -- `trims::settle_all` meets its contract. The loop keeps the rows before its own settled, and the others as they were. Assumes nothing.
-use Prim.Native.Nat.{◌-◌, ◌≤◌}
+use Prim.Native.Nat.{◌≤◌}
 use native.Mathlib.Nat.{le_antisymm}
 use native.Mathlib.Omega.{arith}
 use lib.ListN.{length-set}
