@@ -133,8 +133,8 @@ module _ (bs : List ℕ) (k n m : ℕ) (two : counts_good bs ≡ true) (ek : k �
     unfolding arrays_of
     caps_are e = e ∙ ap (λ (ss : List ℕ). tabulate 6 (cap_of ss)) statuses_are
 
-    pub clients_are : xs ≡ tabulate 48 (λ i. (get_or (bids_in m k (6 + 3 * k + n) bs) i no_bid).client) → xs ≡
-        (arrays_of (book_in bs)).client
+    pub clients_are : xs ≡ tabulate 48 (λ i. (get_or (bids_in m k (6 + 3 * k + n) bs) i no_bid).client)
+        → xs ≡ (arrays_of (book_in bs)).client
     unfolding arrays_of
     clients_are e = e ∙ ap (λ (ys : List Bid). tabulate 48 (λ i. (get_or ys i no_bid).client)) bids_are
 
@@ -143,8 +143,8 @@ module _ (bs : List ℕ) (k n m : ℕ) (two : counts_good bs ≡ true) (ek : k �
     unfolding arrays_of
     hours_are e = e ∙ ap (λ (ys : List Bid). tabulate 192 (λ p. get_or (get_or ys (p / 4) no_bid).hours (p % 4) 0)) bids_are
 
-    pub amounts_are : xs ≡ tabulate 48 (λ i. (get_or (bids_in m k (6 + 3 * k + n) bs) i no_bid).amount) → xs ≡
-        (arrays_of (book_in bs)).amount
+    pub amounts_are : xs ≡ tabulate 48 (λ i. (get_or (bids_in m k (6 + 3 * k + n) bs) i no_bid).amount)
+        → xs ≡ (arrays_of (book_in bs)).amount
     unfolding arrays_of
     amounts_are e = e ∙ ap (λ (ys : List Bid). tabulate 48 (λ i. (get_or ys i no_bid).amount)) bids_are
 

@@ -63,8 +63,8 @@ module _ (bs : List ℕ) (k m at : ℕ) where
   bid_past : (i : ℕ) → m ≤ i → get_or (bids_in m k at bs) i no_bid ≡ no_bid
   bid_past i l = get_or-eq_default (bids_in m k at bs) no_bid (le_trans (le_of_eq (bids_length m k at bs)) l)
 
-  pub client_entry : (i place v : ℕ) → i < m → place ≡ at + i * (k + 5) → v ≡ byte place bs → v ≡
-      (get_or (bids_in m k at bs) i no_bid).client
+  pub client_entry : (i place v : ℕ) → i < m → place ≡ at + i * (k + 5) → v ≡ byte place bs
+      → v ≡ (get_or (bids_in m k at bs) i no_bid).client
   unfolding bid_here
   client_entry i place v l e ev = ev ∙ sym (ap (λ (x : Bid). x.client) (bid_entry i place l e))
 

@@ -38,8 +38,8 @@ first_of k rs = tabulate 4 (λ j. cond (ltb j k) (get_or rs j 0) 0)
 -- four hours from a place on, each times its reserve
 abbrev pub products : (hours : List ℕ) → (at : ℕ) → (reserve : List ℕ) → ℕ
 products hs at rs =
-    get_or hs at 0 * get_or rs 0 0 + get_or hs (at + 1) 0 * get_or rs 1 0 + get_or hs (at + 2) 0 * get_or rs 2 0 + get_or hs (at + 3) 0 *
-    get_or rs 3 0
+    get_or hs at 0 * get_or rs 0 0 + get_or hs (at + 1) 0 * get_or rs 1 0 + get_or hs (at + 2) 0 * get_or rs 2 0
+    + get_or hs (at + 3) 0 * get_or rs 3 0
 
 -- what the second of two bids counts where the hours, or the reserves, of both are one number: 2^32
 abbrev pub second_bid : ℕ

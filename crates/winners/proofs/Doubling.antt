@@ -19,8 +19,8 @@ use Rattle.numbers.proofs.Shifts.{power_shift}
 use Rattle.winners.proofs.Picks.{early, byte_none, byte_with, byte_without, byte_all, byte_small, listed_range}
 
 -- one entry more
-pub doubled_next : (ds out : List ℕ) (end bit i v : ℕ) → i < end → end + i < length out → v ≡ get_or out i 0 + bit → Doubled ds end bit i
-    out
+pub doubled_next : (ds out : List ℕ) (end bit i v : ℕ) → i < end → end + i < length out → v ≡ get_or out i 0 + bit
+    → Doubled ds end bit i out
     → Doubled ds end bit (i + 1) (set out (end + i) v)
 doubled_next ds out end bit i v l k e d = record {
   kept = λ L m. get_or-set_other out (end + i) L v 0 (λ q. omega arith) ∙ d.kept L m;

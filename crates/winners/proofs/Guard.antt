@@ -19,8 +19,8 @@ pub guards_some : (x g : ℕ) → g ≡ bit_and x guards → g ≢ 0 → eqb (bi
 guards_some x g e n = ne_eqb (bit_and x guards) 0 (λ z. n (e ∙ z))
 
 -- the low bits and the others are tested apart
-blocks : (k a b r s x y : ℕ) → r < 2 ^ k → s < 2 ^ k → x ≡ a * 2 ^ k + r → y ≡ b * 2 ^ k + s → bit_and x y ≡ bit_and a b * 2 ^ k + bit_and r
-    s
+blocks : (k a b r s x y : ℕ) → r < 2 ^ k → s < 2 ^ k → x ≡ a * 2 ^ k + r → y ≡ b * 2 ^ k + s
+    → bit_and x y ≡ bit_and a b * 2 ^ k + bit_and r s
 blocks k a b r s x y p q m n = rw (m, n) (and_block k a b r s p q)
 
 -- the guard is set from 256 on
