@@ -105,10 +105,8 @@ pub(crate) fn book_of(s: &[u8]) -> Book {
     let reading = book::read(after(s, width(s)));
     let mut book = reading.book;
     let count = bytes::byte_at(s, 0) as usize;
-    let mut i: usize = 0;
-    while i < count {
+    for i in 0..count {
         book = changed(book, after(s, 1 + 6 * i));
-        i += 1;
     }
     book
 }

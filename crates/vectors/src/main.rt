@@ -25,47 +25,49 @@ mod over_value;
 mod print;
 mod text;
 
-ghost use Rattle.std.specs.Prelude.{◌<◌, length};
+ghost use Rattle.std.specs.Prelude.{◌<◌, length, IfOk};
 
-use libc::{STDIN_FILENO, STDOUT_FILENO};
+use std::io;
+use std::io::Read;
 
 // Prints the answer to a letter and bytes.
-fn answer(letter: u8, s: &[u8]) {
+fn answer(out: &impl Print, letter: u8, s: &[u8]) -> io::Result<()> {
     match letter {
-        b'b' | b'w' | b'd' | b'q' => over_bytes::field(letter, s),
-        b'R' | b'G' | b'D' | b'T' => over_bytes::book(letter, s),
-        b'J' | b'F' | b'f' => over_bytes::sheet(letter, s),
-        b'S' | b's' => over_value::alone(letter, s),
-        b'c' | b'a' | b'r' | b'l' | b'h' | b't' => over_value::by_number(letter, s),
-        _ => over_value::weighed(letter, s),
+        b'b' | b'w' | b'd' | b'q' => over_bytes::field(out, letter, s),
+        b'R' | b'G' | b'D' | b'T' => over_bytes::book(out, letter, s),
+        b'J' | b'F' | b'f' => over_bytes::sheet(out, letter, s),
+        b'S' | b's' => over_value::alone(out, letter, s),
+        b'c' | b'a' | b'r' | b'l' | b'h' | b't' => over_value::by_number(out, letter, s),
+        _ => over_value::weighed(out, letter, s),
     }
 }
 
 // Prints the answer to the line that begins at a place, and says where the next one begins.
-fn run_line(lines: &[u8], from: usize) -> usize
+fn run_line(out: &impl Print, lines: &[u8], from: usize) -> io::Result<usize>
     requires { from < length lines.now }
-    ensures { from < result }
+    ensures { IfOk result (λ next. from < next) }
 {
     let colon = text::find(lines, from, b':');
     let end = text::find(lines, colon, b'\n');
     let mut bytes = [0u8; 4096];
     let n = text::unhex(&lines[colon..end], &mut bytes);
-    io::write_all(STDOUT_FILENO, &lines[from..colon]);
-    io::write_all(STDOUT_FILENO, b":");
-    answer(lines[from], &bytes[..n]);
-    io::write_all(STDOUT_FILENO, b"\n");
-    end + 1
+    out.write_all(&lines[from..colon])?;
+    out.write_all(b":")?;
+    answer(out, lines[from], &bytes[..n])?;
+    out.write_all(b"\n")?;
+    Ok(end + 1)
 }
 
-fn run_all(lines: &[u8]) {
+fn run_all(out: &impl Print, lines: &[u8]) -> io::Result<()> {
     let mut at = 0;
     while at < lines.len() {
-        at = run_line(lines, at);
+        at = run_line(out, lines, at)?;
     }
+    Ok(())
 }
 
-fn main() {
-    let mut space = io::large_buffer();
-    let n = io::read_full(STDIN_FILENO, &mut space);
-    run_all(&space[..n]);
+fn main(rt: HostRuntime) -> io::Result<()> {
+    let mut lines = Vec::new(rt.alloc());
+    rt.stdin().read_to_end(&mut lines)?;
+    run_all(&rt, lines.as_slice())
 }

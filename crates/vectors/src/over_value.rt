@@ -2,13 +2,14 @@
 use crate::change::after;
 use crate::{change, print};
 use book::{Book, bytes};
+use std::io;
 
 // The number of the first question that the book fails, or its supplies.
-pub(crate) fn alone(letter: u8, s: &[u8]) {
+pub(crate) fn alone(out: &impl Print, letter: u8, s: &[u8]) -> io::Result<()> {
     let book = change::book_of(s);
     match letter {
-        b'S' => print::next(book::sound(book) as u64),
-        _ => print::four(book::supply_of(book)),
+        b'S' => print::next(out, book::sound(book) as u64),
+        _ => print::four(out, book::supply_of(book)),
     }
 }
 
@@ -17,23 +18,26 @@ fn one_if(yes: bool) -> u64 {
 }
 
 // Of a bid, its client, amount and reserves, by the operations over a book's arrays.
-fn print_lent(book: Book, number: usize) {
-    print::next(book::client_in(book.m, &book.client, number) as u64);
-    print::next(book::amount_in(book.m, &book.amount, number) as u64);
-    print::next(book::reserves_in(book.k, book.reserve, book.m, &book.hours, number));
+fn print_lent(out: &impl Print, book: Book, number: usize) -> io::Result<()> {
+    print::next(out, book::client_in(book.m, &book.client, number) as u64)?;
+    print::next(out, book::amount_in(book.m, &book.amount, number) as u64)?;
+    print::next(
+        out,
+        book::reserves_in(book.k, book.reserve, book.m, &book.hours, number),
+    )
 }
 
 // What the book has under a number, of a bid or of a client.
-pub(crate) fn by_number(letter: u8, s: &[u8]) {
+pub(crate) fn by_number(out: &impl Print, letter: u8, s: &[u8]) -> io::Result<()> {
     let number = bytes::byte_at(s, 0) as usize;
     let book = change::book_of(after(s, 1));
     match letter {
-        b'c' => print::next(book::client_of(book, number) as u64),
-        b'a' => print::next(book::amount_of(book, number) as u64),
-        b'r' => print::next(book::reserves_of(book, number)),
-        b'l' => print_lent(book, number),
-        b'h' => print::four(book::hours_of(book, number)),
-        _ => print::next(one_if(book::is_standing(book, number))),
+        b'c' => print::next(out, book::client_of(book, number) as u64),
+        b'a' => print::next(out, book::amount_of(book, number) as u64),
+        b'r' => print::next(out, book::reserves_of(book, number)),
+        b'l' => print_lent(out, book, number),
+        b'h' => print::four(out, book::hours_of(book, number)),
+        _ => print::next(out, one_if(book::is_standing(book, number))),
     }
 }
 
@@ -48,39 +52,39 @@ fn six_of(s: &[u8]) -> [u8; 6] {
     [a, b, c, d, e, f]
 }
 
-fn print_worth(s: &[u8]) {
+fn print_worth(out: &impl Print, s: &[u8]) -> io::Result<()> {
     let book = change::book_of(after(s, 1));
-    print::worth(winners::greatest_of(book, bytes::byte_at(s, 0)));
+    print::worth(out, winners::greatest_of(book, bytes::byte_at(s, 0)))
 }
 
-fn print_table(s: &[u8]) {
+fn print_table(out: &impl Print, s: &[u8]) -> io::Result<()> {
     let book = change::book_of(after(s, 7));
     let count = bytes::byte_at(s, 0) as usize;
-    print::table(winners::surpluses_of(book, six_of(s), count));
+    print::table(out, winners::surpluses_of(book, six_of(s), count))
 }
 
-fn print_weighed(s: &[u8]) {
+fn print_weighed(out: &impl Print, s: &[u8]) -> io::Result<()> {
     let book = change::book_of(after(s, 7));
     let count = bytes::byte_at(s, 0) as usize;
     let weighed = winners::weigh(book, six_of(s), count);
     let clients = weighed.clients;
     let sigma = weighed.sigma;
-    print::next(weighed.number as u64);
-    print::next(weighed.value);
-    print::six_bytes(clients);
-    print::sets(&sigma);
+    print::next(out, weighed.number as u64)?;
+    print::next(out, weighed.value)?;
+    print::six_bytes(out, clients)?;
+    print::sets(out, &sigma)
 }
 
-fn print_answer(s: &[u8]) {
+fn print_answer(out: &impl Print, s: &[u8]) -> io::Result<()> {
     let book = change::book_of(s);
-    print::answer(judge::judge_over(book, change::behind(s)));
+    print::answer(out, judge::judge_over(book, change::behind(s)))
 }
 
-pub(crate) fn weighed(letter: u8, s: &[u8]) {
+pub(crate) fn weighed(out: &impl Print, letter: u8, s: &[u8]) -> io::Result<()> {
     match letter {
-        b'g' => print_worth(s),
-        b'u' => print_table(s),
-        b'W' => print_weighed(s),
-        _ => print_answer(s),
+        b'g' => print_worth(out, s),
+        b'u' => print_table(out, s),
+        b'W' => print_weighed(out, s),
+        _ => print_answer(out, s),
     }
 }
