@@ -32,24 +32,23 @@ put() {
 }
 put_version() { put "$name $(<"$root/VERSION")"; }
 
-# ---- the crates that a crate stands on, itself the last, with their levels. Those of one level need nothing of each other
+# ---- the crates that a crate stands on, each after those that it stands on, itself the last
 
-declare -A stands_on=() level=()
+declare -A stands_on=() met=()
 needed=()
-read_crates() {
-    local line other
+read_crates() { # a line is NAME: OTHERS, or NAME staticlib: OTHERS
+    local line
     while IFS= read -r line || [ -n "$line" ]; do
-        line=${line%%#*} other=${line%%:*}
-        [ "$other" = "$line" ] || stands_on[${other//[[:space:]]/}]=${line#*:}
+        [[ ${line%%#*} =~ ^[[:space:]]*([[:alnum:]_]+)[^:]*:?(.*)$ ]] || continue
+        stands_on[${BASH_REMATCH[1]}]=${BASH_REMATCH[2]}
     done <"$root/crates.txt"
 }
 need() { # CRATE
     local other
-    level[$1]=0
+    met[$1]=yes
     for other in ${stands_on[$1]-}; do
         [ -n "${stands_on[$other]+listed}" ] || continue # a library of the kit
-        [ -n "${level[$other]+met}" ] || need "$other"
-        [ "${level[$1]}" -gt "${level[$other]}" ] || level[$1]=$((level[$other] + 1))
+        [ -n "${met[$other]-}" ] || need "$other"
     done
     needed+=("$1")
 }
@@ -65,19 +64,21 @@ choose() { # PRODUCT
     call) crate=exports files=("$made/call") sources+=(rust .cargo) ;;
     esac
     [ ${#stands_on[@]} -gt 0 ] || read_crates
-    level=() needed=()
+    met=() needed=()
     need "$crate"
     sources+=("${needed[@]/#/crates/}")
 }
 
-# Each source, and each other file that is named before '--', put to find's words. To be run in a subshell.
+# Each source, and each other file that is named before '--', put to find's words. What rt keeps in a crate's out/ is none. To be run in a
+# subshell.
 each() { # FILES.. -- WORDS..
-    local more=()
+    local more=() other
     while [ "$1" != -- ]; do
         more+=("$1")
         shift
     done
     local passed=(-name must-fail -o -path rust/target)
+    for other in "${needed[@]}"; do passed+=(-o -path "crates/$other/out"); done
     CDPATH='' cd -- "$root" && LC_ALL=C find -L "${sources[@]}" "${more[@]}" \( "${passed[@]}" \) -prune -o ! -type d "${@:2}" 2>/dev/null
 }
 listing() { each "$@" -- -printf '%p %s %T@ %C@ %D %i\n'; }
@@ -88,9 +89,9 @@ recent() { each "${files[@]}" -- -newerct '2 seconds ago' -print -quit; }
 identify() {
     kit=''
     hash rt 2>/dev/null || return 0
-    local home=${RATTLE_HOME-}
-    [ -n "$home" ] || home=$(readlink -f -- "${BASH_CMDS[rt]}")
-    { read -r kit <"${home%/bin/rt}/KIT-ID"; } 2>/dev/null || kit=$(rt version)
+    local home
+    home=$(readlink -f -- "${BASH_CMDS[rt]}")
+    { read -r kit <"${home%/bin/rt}/KIT-ID"; } 2>/dev/null || kit=$(rt version </dev/null)
 }
 
 # Whether the product is that of the sources as they are, by the kit as it is; `why` says why not. Where there is no rt, no kit has changed.
@@ -142,34 +143,40 @@ step() {
 }
 step_over() { [ ! -t 2 ] || [ -n "$verbose" ] || printf '\r\033[K' >&2; }
 
+# Runs words in a folder below the root. `rt run` also runs the program that it builds: on what its crate is tried on, and what it prints is
+# thrown away.
+inside() { # FOLDER WORDS..
+    CDPATH='' cd -- "$root/$1" || return
+    shift
+    case "$*" in
+    'rt run '*) "$@" <stdin >/dev/null ;;
+    *) "$@" </dev/null ;;
+    esac
+}
 # Runs a tool. What it says is shown with --verbose, or where it fails.
-run() {
+run() { # FOLDER WORDS..
     local log=$root/$made/$product.log status=0
     if [ -n "$verbose" ]; then
-        (CDPATH='' cd -- "$root" && "$@") </dev/null >&2 || status=$?
+        (inside "$@") >&2 || status=$?
     else
-        (CDPATH='' cd -- "$root" && "$@") </dev/null >"$log" 2>&1 || status=$?
+        (inside "$@") >"$log" 2>&1 || status=$?
     fi
     [ $status -ne 0 ] || return 0
     step_over
     [ -n "$verbose" ] || cat -- "$log" >&2
-    stop $UNPROVED "not proved: '$*' ended with status $status"
+    stop $UNPROVED "not proved: '${*:2}' ended with status $status"
 }
 
-# Proves all crates below the product's own, level by level, and announces that one.
+# Proves all crates below the product's own, and announces that one. rt trusts what it has proved, and the program that it then linked. That
+# program may have been exchanged, so what rt kept of its crate is removed, while no rt is at work there.
 prove_below() {
-    local height other names lines count=0
-    for ((height = 0; height <= level[$crate]; height++)); do
-        names=() lines=()
-        for other in "${needed[@]}"; do
-            [ "${level[$other]}" -eq "$height" ] || continue
-            count=$((count + 1))
-            names+=("$other")
-            lines+=("proving $count of ${#needed[@]}: $other")
-        done
-        step "${lines[@]}"
-        [ "$height" -eq "${level[$crate]}" ] || run rt check "${names[@]}"
+    local other count=0
+    for other in "${needed[@]}"; do
+        count=$((count + 1))
+        step "proving $count of ${#needed[@]}: $other"
+        [ "$other" = "$crate" ] || run "crates/$other" rt lib "$other"
     done
+    run . flock "crates/$crate" rm -rf -- "crates/$crate/out"
 }
 
 # A file of the product takes its place whole.
@@ -189,19 +196,18 @@ build() {
     write_whole "$root/$made/$product.proved" "$proved" || stop $UNPROVED "not built: $root/$made cannot be written"
 }
 
-# rt trusts what it has proved, and the program that it then linked. That program may have been exchanged, so its crate is proved again.
 build_price_list() {
     prove_below
-    rm -f -- "$root/target/stamp/price_list"
-    run rt check price_list
-    put_in_place target/bin/price_list "$made/price_list"
+    run crates/price_list rt run price_list
+    put_in_place crates/price_list/out/price_list "$made/price_list"
 }
 
 build_library() {
     prove_below
-    run rt staticlib exports
-    local archive=target/staticlib/libexports.a shared=$made/libgimletsorrel.so
-    run cc -shared -nostartfiles -Wl,-soname,libgimletsorrel.so,-z,defs -o "$shared" \
+    run crates/exports rt lib exports
+    local archive=crates/exports/out/libexports.a shared=$made/libgimletsorrel.so
+    mkdir -p -- "$root/target/staticlib" 2>/dev/null
+    run . cc -shared -nostartfiles -Wl,-soname,libgimletsorrel.so,-z,defs -o "$shared" \
         -Wl,--whole-archive "$archive" -Wl,--no-whole-archive
     put_in_place "$archive" "${files[0]}"
     put_in_place "$shared" "${files[1]}"
@@ -215,6 +221,6 @@ build_call() {
     choose call
     step "building call"
     rm -rf -- "${root:?}/$built"
-    run env "CARGO_TARGET_DIR=$root/$built" cargo build --offline --locked --quiet --release --manifest-path rust/Cargo.toml --package call
+    run . env "CARGO_TARGET_DIR=$root/$built" cargo build --offline --locked --quiet --release --manifest-path rust/Cargo.toml --package call
     put_in_place "$built/release/call" "$made/call"
 }
