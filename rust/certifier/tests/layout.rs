@@ -123,7 +123,7 @@ fn the_source_exports_what_is_declared() {
         "gimletsorrel_version() -> u32",
     ];
     assert_eq!(exported, declared);
-    for line in ["use winners::Worth;", "use winners::SigmaTable;", "use judge::Prices;", "use text::Text;"] {
+    for line in ["use winners::{SigmaTable, Worth};", "use judge::Prices;", "use text::Text;"] {
         assert!(source.lines().any(|other| other == line), "{line}");
     }
 }
