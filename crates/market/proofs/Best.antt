@@ -1,5 +1,5 @@
--- The recursion's value is the greatest over vectors: none is worth more (best-unbeaten), one is worth as much (best-attained), and no
--- other number is both (best-is). proofs/Optimum.antt carries this over to combinations. Assumes nothing.
+-- The recursion's value is the greatest over vectors: none is worth more (best_unbeaten), one is worth as much (best_attained), and no
+-- other number is both (best_is). proofs/Optimum.antt carries this over to combinations. Assumes nothing.
 use mathlib.Core.Path.{◌≡◌, refl, sym, ap, subst}
 use mathlib.Core.Bool.{true}
 use mathlib.Core.List.{List, [], ◌∷◌}

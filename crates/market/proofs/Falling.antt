@@ -1,5 +1,5 @@
 -- A row whose weights fall: a search may end where a bid, with all that the later members could add, does not beat the best so far
--- (row-falls); and the steps of a loop over the row, place by place. The layers above cite it. Assumes nothing.
+-- (row_falls); and the steps of a loop over the row, place by place. The layers above cite it. Assumes nothing.
 use mathlib.Core.Path.{◌≡◌}
 use mathlib.Core.Bool.{true, false, cond}
 use mathlib.Core.List.{List, ◌∷◌}

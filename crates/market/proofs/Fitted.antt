@@ -1,5 +1,5 @@
 -- Bids that ask for more than the supply are in no combination, so a market without them has the same greatest value. The layers above cite
--- best-fitted. Assumes nothing.
+-- best_fitted. Assumes nothing.
 use mathlib.Core.Path.{◌≡◌, sym}
 use mathlib.Core.Bool.{true, and-true, and-eq-true_iff}
 use mathlib.Core.List.{List}

@@ -1,6 +1,6 @@
 -- Where the heaviest bids of all members fit together, nothing is better than to take them: so each adds its weight to what the others
--- reach (heaviest-first). A search need not look at such members. The first bid of a row that falls is its client's heaviest
--- (row-heaviest). The layers above cite it. Assumes nothing.
+-- reach (heaviest_first). A search need not look at such members. The first bid of a row that falls is its client's heaviest
+-- (row_heaviest). The layers above cite it. Assumes nothing.
 use mathlib.Core.Path.{◌≡◌, refl, sym, ap, ◌∙◌}
 use mathlib.Core.Bool.{true}
 use mathlib.Core.List.{List, [], ◌∷◌}

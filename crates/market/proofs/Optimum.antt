@@ -1,4 +1,4 @@
--- The recursion's value is the greatest over combinations in any order (greatest-best), and only one number is (greatest-unique). This
+-- The recursion's value is the greatest over combinations in any order (greatest_best), and only one number is (greatest_unique). This
 -- is the theorem that the layers above cite of the greatest value. Assumes nothing.
 use mathlib.Core.Path.{◌≡◌, sym, ◌∙◌}
 use mathlib.Core.List.{List}

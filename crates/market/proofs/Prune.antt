@@ -1,6 +1,6 @@
--- Laws for a search that leaves out what cannot beat a value already found: a floor goes through one client's choice (choose-floor,
--- best-floor), bids that are not open are passed by (choose-skip), and ceilings for the clients left bound the recursion
--- (best-ceiling). Clients with no bid add nothing (best-idle), and only the bids' weights count (best-weights). The layers above cite
+-- Laws for a search that leaves out what cannot beat a value already found: a floor goes through one client's choice (choose_floor,
+-- best_floor), bids that are not open are passed by (choose_skip), and ceilings for the clients left bound the recursion
+-- (best_ceiling). Clients with no bid add nothing (best_idle), and only the bids' weights count (best_weights). The layers above cite
 -- them. Assumes nothing.
 use mathlib.Core.Path.{◌≡◌, refl, sym, ap, ap₂, fun_ext, ◌∙◌}
 use mathlib.Core.Bool.{true, false, ◌&&◌, and-eq-true_iff}

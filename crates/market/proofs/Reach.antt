@@ -1,4 +1,4 @@
--- What members reach: more hours never lower it (reach-covers), and fewer members never raise it (reach-fewer, reach-without).
+-- What members reach: more hours never lower it (reach_covers), and fewer members never raise it (reach_fewer, reach_without).
 -- proofs/ReachKept.antt, proofs/Trimmed.antt, proofs/Split.antt and the layers above cite it. Assumes nothing.
 use mathlib.Core.Path.{◌≡◌}
 use mathlib.Core.Bool.{true}

@@ -1,5 +1,5 @@
--- What the clients that a test keeps reach: it is the greatest value of the market where only they are kept (reach-best), and fewer of
--- them never reach more (reach-kept). The layers above cite it. Assumes nothing.
+-- What the clients that a test keeps reach: it is the greatest value of the market where only they are kept (reach_best), and fewer of
+-- them never reach more (reach_kept). The layers above cite it. Assumes nothing.
 use mathlib.Core.Path.{◌≡◌, refl, ap, ap₂, fun_ext, ◌∙◌}
 use mathlib.Core.Bool.{Bool, true, false, ◌&&◌, and-false, and_comm, and_assoc}
 use mathlib.Core.List.{List, ◌∷◌}

@@ -1,5 +1,5 @@
 -- One client's choice from a row of its bids, whatever their order: it is the largest of passing and of taking any one that fits, and a row
--- that holds all its bids chooses as the client does (row-chooses). proofs/Falling.antt and the layers above cite it. Assumes nothing.
+-- that holds all its bids chooses as the client does (row_chooses). proofs/Falling.antt and the layers above cite it. Assumes nothing.
 use mathlib.Core.Path.{◌≡◌, refl, sym, ap₂, fun_ext, subst}
 use mathlib.Core.Bool.{true}
 use mathlib.Core.List.{List, [], ◌∷◌}

@@ -1,5 +1,5 @@
 -- The split: what members reach is what they reach without one of them, or where nobody passes, and then their least hours may be taken off
--- the supply and off every bid beforehand. The layers above cite split-value, for a search that takes sets from few clients to many.
+-- the supply and off every bid beforehand. The layers above cite split_value, for a search that takes sets from few clients to many.
 -- Assumes nothing.
 use mathlib.Core.Path.{◌≡◌, refl, sym, ◌∙◌}
 use mathlib.Core.Bool.{true, false, false≢true}

@@ -1,4 +1,4 @@
--- The test of one pass is right: it is true exactly of the combinations by rising client. The layers above cite combination-test.
+-- The test of one pass is right: it is true exactly of the combinations by rising client. The layers above cite combination_test.
 -- Assumes nothing.
 use mathlib.Core.Path.{◌≡◌, refl}
 use mathlib.Core.Bool.{Bool, true, ◌&&◌, and-eq-true_iff}

@@ -1,6 +1,6 @@
--- Least hours taken off every bid: what the trimmed market reaches where nobody passes, the members reach (full-reaches), so that what is
--- known of the members still to come bounds it (full-ceiling); and what they reach by bids of all of them, the trimmed market reaches too
--- (full-take). proofs/Split.antt and the layers above cite it. Assumes nothing.
+-- Least hours taken off every bid: what the trimmed market reaches where nobody passes, the members reach (full_reaches), so that what is
+-- known of the members still to come bounds it (full_ceiling); and what they reach by bids of all of them, the trimmed market reaches too
+-- (full_take). proofs/Split.antt and the layers above cite it. Assumes nothing.
 use mathlib.Core.Path.{◌≡◌}
 use mathlib.Core.Bool.{true}
 use mathlib.Core.List.{List, [], ◌∷◌}

@@ -1,5 +1,6 @@
-// Small functions on numbers and tests, which ask nothing. Every layer cites their contracts. The laws of proofs/Shifts.antt say what a
-// shift computes that loses no bit, and those of proofs/Lengths.antt what the table of sheet lengths holds.
+// Small functions on numbers and tests, which ask nothing. Every layer cites their contracts, but no layer yet that of `sheet_length`. The
+// laws of proofs/Shifts.antt say what a shift computes that loses no bit, and those of proofs/Lengths.antt what the table of sheet lengths
+// holds.
 #![tactic(auto)]
 
 ghost use Rattle.std.specs.Prelude.{◌≡◌, ◌&&◌, cond, ◌-◌, ◌^◌, ◌≤◌, min, max};

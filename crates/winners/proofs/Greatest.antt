@@ -1,5 +1,5 @@
 -- The recursion gives the greatest value: unbeaten and attained over combinations of clients that stay, for any book whose bids ask for its
--- kinds alone (greatest-value). Cited by the contract of the greatest value and by the layers above. Assumes nothing.
+-- kinds alone (greatest_value). Cited by the contract of the greatest value and by the layers above. Assumes nothing.
 use mathlib.Core.Path.{◌≡◌, refl, sym, ap, fun_ext}
 use mathlib.Core.Bool.{Bool, false, not}
 use mathlib.Core.List.{List}

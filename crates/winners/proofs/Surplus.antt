@@ -1,4 +1,4 @@
--- σ: which clients a set picks from a list, and that σ with the greatest value without them makes the greatest value (surplus-is). Cited
+-- σ: which clients a set picks from a list, and that σ with the greatest value without them makes the greatest value (surplus_is). Cited
 -- by the contract of the σ table and by the layers above. Assumes nothing.
 use mathlib.Core.Path.{◌≡◌, refl, sym, ap, ◌∙◌}
 use mathlib.Core.Bool.{Bool, true, false, ◌&&◌, ◌||◌, or-true, false≢true, and-eq-true_iff}

@@ -4,6 +4,6 @@ use Rattle.std.specs.Prelude.{List, ℕ}
 use Rattle.book.specs.Lists.{row}
 use Rattle.market.specs.Market.{at}
 
--- the first by_kind entries; 0 past the end
+-- the first four entries; 0 past the end
 abbrev pub by_kind : List ℕ → List ℕ
 by_kind xs = row 4 0 (λ j. at xs j)

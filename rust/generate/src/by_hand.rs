@@ -36,15 +36,11 @@ pub struct S {
 
 impl S {
     pub fn bytes(&self) -> Vec<u8> {
-        let rest = self.behind_length();
-        let length = 3 + rest.len() as u16;
-        [&[1], &length.to_be_bytes()[..], &rest].concat()
-    }
-
-    /// All of it but version and length.
-    fn behind_length(&self) -> Vec<u8> {
         let sets = (1_usize << self.bids.len()) - 1;
-        let mut bytes = vec![self.bids.len() as u8];
+        let length = 20 + 29 * self.bids.len() + 12 * sets;
+        let mut bytes = vec![1];
+        bytes.extend((length as u16).to_be_bytes());
+        bytes.push(self.bids.len() as u8);
         bytes.extend(&self.bids);
         bytes.extend(self.q.to_be_bytes());
         bytes.extend(self.s.to_be_bytes());
@@ -61,6 +57,7 @@ impl S {
             bytes.extend(y.to_be_bytes());
             bytes.extend(u.to_be_bytes());
         }
+        assert_eq!(bytes.len(), length);
         bytes
     }
 

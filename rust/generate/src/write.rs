@@ -1,5 +1,5 @@
-//! Books and sheets as bytes. Counts and lengths are written as they come out; every other field is
-//! written as it stands, in range or not, cut to its width.
+//! Books and sheets as bytes. Lengths and counts are written as the formulas give them; every
+//! other field is written as it stands, in range or not, cut to its width.
 
 use reference::book::Book;
 use reference::sheet::Sheet;
@@ -32,16 +32,8 @@ pub fn book(book: &Book) -> Vec<u8> {
 }
 
 pub fn sheet(sheet: &Sheet) -> Vec<u8> {
-    let rest = behind_length(sheet);
     let mut bytes = vec![1];
-    put(&mut bytes, 3 + rest.len() as i128, 2);
-    bytes.extend(rest);
-    bytes
-}
-
-/// All of a sheet but its version and length.
-fn behind_length(sheet: &Sheet) -> Vec<u8> {
-    let mut bytes = Vec::new();
+    put(&mut bytes, sheet_length(sheet), 2);
     put(&mut bytes, sheet.winners.len() as i128, 1);
     for winner in &sheet.winners {
         put(&mut bytes, winner.bid as i128, 1);
@@ -60,6 +52,10 @@ fn behind_length(sheet: &Sheet) -> Vec<u8> {
         put(&mut bytes, set.u, 8);
     }
     bytes
+}
+
+fn sheet_length(sheet: &Sheet) -> i128 {
+    20 + 29 * sheet.winners.len() as i128 + 12 * (sheet.sets.len() as i128 - 1)
 }
 
 /// A whole input: the book, and the sheet from the byte after it.

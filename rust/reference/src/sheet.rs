@@ -32,15 +32,9 @@ pub struct Multipliers {
     pub u: i128,
 }
 
-/// The length of a sheet with w winners, added up from the widths of its fields.
+/// The length of a sheet with w winners, at most six.
 pub fn sheet_length(w: usize) -> usize {
-    let version_length_and_w = 1 + 2 + 1;
-    let q_and_s = 4 + 4;
-    let bid_and_figures = 1 + (8 + 4 + 8 + 8);
-    let g = 8;
-    let y_and_u = 4 + 8;
-    let sets = (1..1_usize << w).len();
-    version_length_and_w + q_and_s + bid_and_figures * w + g + y_and_u * sets
+    20 + 29 * w + 12 * ((1 << w) - 1)
 }
 
 /// Whether winner k is in the set with this number.

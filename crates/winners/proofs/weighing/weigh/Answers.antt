@@ -22,16 +22,11 @@ use Rattle.winners.proofs.weighing.weigh.Goals.{
   After-sets_end,
   After-weigh_all-values,
   Else-not-is_choice,
-  Else-number-gt0,
   Start,
 }
 
 six_bids : (c : Start) → length c.args.bids ≡ 6
 six_bids c = search rules
-
--- the book is sound
-none : (c : Else-number-gt0) → sound_number c.args.book ≡ 0
-none c = refusal_none c.sound-number.ensures c.if-number-gt0.false
 
 -- the bids are a combination by rising client
 good : (c : Else-not-is_choice) → let a = c.args in choice_good (book_of a.book) a.bids a.count ≡ true
@@ -49,45 +44,43 @@ returns-then-number-gt0 c =
 pub returns-then-not-is_choice : goal.returns-then-not-is_choice
 returns-then-not-is_choice c =
     let z = c.refused-then-not-is_choice.ensures in
-    weighed_none _ (held_shaped _) _ _ _ _ (none (goal.at.returns-then-not-is_choice c).Else-number-gt0)
+    weighed_none _ (held_shaped _) _ _ _ _ (refusal_none c.sound-number.ensures c.if-number-gt0.false)
     (sym c.is_choice.ensures ∙ c.if-not-is_choice.true)
     (record { number_is = z.0; value = z.1; clients = z.2; sigma = z.3 })
 
--- the value of all clients
-all : (c : After-weigh_all-values) → get_or c.weigh_all-values.result 63 0
-    ≡ greatest (book_of c.args.book) 0
-all c = all_value _ (sound_held _ (none c.before.before.before.before)) 0 _ c.weigh_all-values.ensures
+-- the value of all clients of a sound book
+all : (c : After-weigh_all-values) → sound_number c.args.book ≡ 0
+    → get_or c.weigh_all-values.result 63 0 ≡ greatest (book_of c.args.book) 0
+all c sound = all_value _ (sound_held _ sound) 0 _ c.weigh_all-values.ensures
 
 pub returns-then-worth-value : goal.returns-then-worth-value
 returns-then-worth-value c =
     let z = c.refused-then-worth-value.ensures in
-    weighed_less _ (held_shaped _) _ _ _ _ (none (goal.at.returns-then-worth-value c).Else-number-gt0)
-    (good (goal.at.returns-then-worth-value c).Else-not-is_choice)
-    (λ e. c.if-worth-value.true (c.value_of-worth.ensures ∙ e ∙ sym (all (goal.at.returns-then-worth-value c).After-weigh_all-values)))
+    let book_sound = refusal_none c.sound-number.ensures c.if-number-gt0.false in
+    let v = all (goal.at.returns-then-worth-value c).After-weigh_all-values book_sound in
+    weighed_less _ (held_shaped _) _ _ _ _ book_sound (good (goal.at.returns-then-worth-value c).Else-not-is_choice)
+    (λ e. c.if-worth-value.true (c.value_of-worth.ensures ∙ e ∙ sym v))
     (record { number_is = z.0; value = z.1; clients = z.2; sigma = z.3 })
 
-listed : (c : After-owners_of-clients)
-    → let a = c.args in
-    RisingList c.owners_of-clients.result a.count
-listed c =
+listed : (c : After-owners_of-clients) → sound_number c.args.book ≡ 0 → RisingList c.owners_of-clients.result c.args.count
+listed c sound =
     let a = c.args in
     let is = chosen_bids _ (held_shaped _) _ _ (good c.before.before.before.before) in
     rw c.owners_of-clients.ensures
     (owners_listed (book_of a.book) a.bids a.count is.few (six_bids c.before.before.before.before.before.before.before.before)
-    (sound_held _ (none c.before.before.before.before.before.before))
-    is.combination is.rising)
+    (sound_held _ sound) is.combination is.rising)
 
 pub value_of-worth-requires : goal.value_of-worth-requires
 value_of-worth-requires c = few c
 
 pub weigh_all-values-requires : goal.weigh_all-values-requires
-weigh_all-values-requires c = none (goal.at.weigh_all-values-requires c).Else-number-gt0
+weigh_all-values-requires c = refusal_none c.sound-number.ensures c.if-number-gt0.false
 
 pub owners_of-clients-requires : goal.owners_of-clients-requires
 owners_of-clients-requires c = few (goal.at.owners_of-clients-requires c).Else-not-is_choice
 
 pub discards-discards-requires : goal.discards-discards-requires
-discards-discards-requires c = listed c
+discards-discards-requires c = listed c (refusal_none c.sound-number.ensures c.if-number-gt0.false)
 
 -- the end of the sets
 ended : (c : After-sets_end)
@@ -104,13 +97,13 @@ sigma_by-sigma-requires c = (
 pub returns : goal.returns
 returns c =
     let a = c.args in
-    let sound = none (goal.at.returns c).Else-number-gt0 in
+    let sound = refusal_none c.sound-number.ensures c.if-number-gt0.false in
     let cut = ap (λ (cs : List ℕ). take a.count cs) c.owners_of-clients.ensures
     ∙ owners_take (book_of a.book) a.bids a.count (few (goal.at.returns c).Else-not-is_choice) (six_bids (goal.at.returns c).Start) in
     weighed_found _ (held_shaped _) _ _ _ _ sound (good (goal.at.returns c).Else-not-is_choice)
-    (sym c.value_of-worth.ensures ∙ c.if-worth-value.false ∙ all (goal.at.returns c).After-weigh_all-values) refl
-    (all (goal.at.returns c).After-weigh_all-values) c.owners_of-clients.ensures
+    (sym c.value_of-worth.ensures ∙ c.if-worth-value.false ∙ all (goal.at.returns c).After-weigh_all-values sound) refl
+    (all (goal.at.returns c).After-weigh_all-values sound) c.owners_of-clients.ensures
     (table_done _ _ _ _ _ _ _ _ (sound_held _ sound) c.discards-discards.ensures (ended (goal.at.returns c).After-sets_end)
-    (all (goal.at.returns c).After-weigh_all-values) c.weigh_all-values.ensures
+    (all (goal.at.returns c).After-weigh_all-values sound) c.weigh_all-values.ensures
     c.sigma_by-sigma.ensures
     ∙ ap (λ (cs : List ℕ). surplus_table (book_of a.book) cs a.count) cut)
