@@ -5,7 +5,7 @@
                                between backticks, but for the notes of landings
     tools/respell.py --list    prints each name with its new spelling, and the names that would fall together
 
-It is run once, on what /opt/rattle/port/port.py leaves. Functions of src/, their goals and their proof folders keep their names.
+It is run once, on what port/port.py of the kit leaves. Functions of src/, their goals and their proof folders keep their names.
 """
 import re
 import sys
