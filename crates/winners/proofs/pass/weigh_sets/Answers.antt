@@ -10,7 +10,7 @@ use lib.Bits.{bit_and, and_le_l}
 use lib.Dec.{eqb}
 use lib.ListN.{get_or, length-replicate, length-set}
 use Rattle.winners.specs.ClientSets.{First, Others, Within}
-use Rattle.winners.specs.Lanes.{Asked, guards}
+use Rattle.winners.specs.Lanes.{Asked, guards, lanes_full}
 use Rattle.winners.specs.Passes.{ValuesTo, Weighable, Passable, head_hours}
 use Rattle.winners.specs.Rows.{first_asked_at}
 use Rattle.winners.specs.Taken.{TakenTo}
@@ -46,8 +46,14 @@ module _ {held used s first rest : ℕ} {rows leasts : List ℕ} (p : Passable h
   least_asked : Asked p.sale.k (p.sale.least first) (get_or leasts first 0)
   least_asked = p.leasts _ f.low f.high
 
+  least_few : get_or leasts first 0 ≤ lanes_full
+  least_few = asked_few _ _ _ p.left.kinds_few least_asked
+
   head_asked : Asked p.sale.k (head_hours p.sale first) (get_or leasts first 0 + get_or rows (first_asked_at first) 0)
   head_asked = p.heads_asked _ f.low f.high (w _ f.there)
+
+  head_few : get_or leasts first 0 + get_or rows (first_asked_at first) 0 ≤ lanes_full
+  head_few = asked_few _ _ _ p.left.kinds_few head_asked
 
   -- the hours used once the set's least hours are taken, and once its heads are
   module _ {values : List ℕ} (taken heads : List ℕ) {after head : ℕ} (known : ValuesTo p.sale.m p.sale.wt p.sale.supply s values)
@@ -79,12 +85,10 @@ bounds-taken-rest c = omega (arith, c.others-rest.ensures.fewer, c.loop-set-test
 
 pub with_hours-after-requires : goal.with_hours-after-requires
 with_hours-after-requires c =
-    let l = c.loop-set in
-    let p = c.requires in
-    let w = inside _ _ c.if-some-set.false in
-    let f = c.first-first.ensures in
-    let o = c.others-rest.ensures in
-    (others_few _ _ _ _ l.taken f o w (l.invariant.4 p).1, asked_few _ _ _ p.left.kinds_few (least_asked p f o w))
+    let w = inside _ _ c.if-some-set.false in (
+      others_few _ _ _ _ c.loop-set.taken c.first-first.ensures c.others-rest.ensures w (c.loop-set.invariant.4 c.requires).1,
+      least_few c.requires c.first-first.ensures c.others-rest.ensures w,
+    )
 
 pub bounds-heads-rest : goal.bounds-heads-rest
 bounds-heads-rest c = omega (arith, c.others-rest.ensures.fewer, c.loop-set-test.true, c.loop-set.invariant.3)
@@ -94,18 +98,14 @@ bounds-rows-first c = omega (arith, c.first-first.ensures.high)
 
 pub overflow_add-least : goal.overflow_add-least
 overflow_add-least c =
-    let p = c.requires in
-    let w = inside _ _ c.if-some-set.false in
-    omega (arith, asked_few _ _ _ p.left.kinds_few (head_asked p c.first-first.ensures c.others-rest.ensures w))
+    omega (arith, head_few c.requires c.first-first.ensures c.others-rest.ensures (inside _ _ c.if-some-set.false))
 
 pub with_hours-head-requires : goal.with_hours-head-requires
 with_hours-head-requires c =
-    let l = c.loop-set in
-    let p = c.requires in
-    let w = inside _ _ c.if-some-set.false in
-    let f = c.first-first.ensures in
-    let o = c.others-rest.ensures in
-    (others_few _ _ _ _ l.heads f o w (l.invariant.4 p).2, asked_few _ _ _ p.left.kinds_few (head_asked p f o w))
+    let w = inside _ _ c.if-some-set.false in (
+      others_few _ _ _ _ c.loop-set.heads c.first-first.ensures c.others-rest.ensures w (c.loop-set.invariant.4 c.requires).2,
+      head_few c.requires c.first-first.ensures c.others-rest.ensures w,
+    )
 
 pub value_of-value-requires : goal.value_of-value-requires
 value_of-value-requires c =
