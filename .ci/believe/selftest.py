@@ -11,7 +11,8 @@ STRUCT, TOP, PART = "crates/base/src/size.rt", "crates/top/src/lib.rt", "crates/
 SMALL = {
     "crates.txt": "# two crates\nbase:\ntop staticlib: base\n",
     "crates/base/src/lib.rt": "mod size;\npub use size::{\n    Size,\n    size_of,\n};\n",
-    STRUCT: """ghost use Rattle.base.specs.Size.{SizeIs};
+    STRUCT: """ghost use Rattle.std.specs.Prelude.{◌≡◌};
+ghost use Rattle.base.specs.Size.{SizeIs};
 
 // How large.
 #[derive(Clone, Copy)]
@@ -24,6 +25,27 @@ pub fn size_of(s: &[u8]) -> Size
     ensures { SizeIs s.now result }
 {
     Size { n: own(s) }
+}
+
+impl Size {
+    ghost use Rattle.base.specs.Count.{count};
+
+    // How many.
+    pub fn many(&self, s: &[u8]) -> u64
+        ensures { result ≡ count s.now }
+    {
+        self.n
+    }
+
+    fn few(&self) -> u64 {
+        self.n
+    }
+}
+
+impl From<Size> for u64 {
+    fn from(size: Size) -> u64 {
+        size.n
+    }
 }
 
 fn own(
@@ -67,8 +89,12 @@ idle = 7
 ghost use Rattle.base.specs.Size.{SizeIs};
 pub mod part;
 
+// How much is looked at.
+const MOST: usize = 7;
+
 pub fn top(s: &[u8]) -> Size
     ensures { SizeIs s.now result }
+    ensures most { SizeIs s.now MOST }
 {
     base::size_of(s)
 }
@@ -89,7 +115,7 @@ pub extern "C" fn exported()
 """,
     page.PAGE: f"""| operation | proof |
 |---|---|
-| `top::top`; `base::size_of`, the size | `top::inner` |
+| `top::top`; `base::size_of`, the size; `base::Size::many` | `top::inner` |
 | `top::part::outer`, `exported` | |
 
 {page.BEGIN}
@@ -116,7 +142,7 @@ WRONG = [
     ("a file has grown", [(SIZE, "idle n = n", "idle n =\n  n")],
      "does not say '| base/specs/Size.antt | 7 | 18 |'"),
     ("a struct has grown", [(STRUCT, "    pub n: u64,", "    pub n: u64,\n    pub m: u64,")],
-     "does not say '| base/src/size.rt | 6 | 21 |'"),
+     "does not say '| base/src/size.rt | 6 | 43 |'"),
     ("a definition is cited now", [(SIZE, "2 + twice n", "idle 2 + twice n")],
      "does not say '| base/specs/Size.antt | 10 | 17 |'"),
     ("one is cited in a binder's type", [(SIZE, "2 + twice n", "(λ (n : idle). 2) n")],
@@ -127,7 +153,7 @@ WRONG = [
      "does not say '| base/specs/Size.antt | 10 | 17 |'"),
     ("one is cited in the second of two clauses",
      [(TOP, "{SizeIs}", "{SizeIs, idle}"),
-      (TOP, "    ensures", "    ensures sized { SizeIs s.now result }\n    ensures rest { idle result.n }\n    ensures again")],
+      (TOP, "    ensures most", "    ensures rest { idle result.n }\n    ensures most")],
      "does not say '| base/specs/Size.antt | 10 | 17 |'"),
     ("a definition is cited no more", [(SIZE, "twice (Other·.count s)", "Other·.count s")],
      "does not say '| base/specs/Size.antt | 3 | 17 |'"),
@@ -140,11 +166,17 @@ WRONG = [
     ("a `use` of the code is of another form", [(TOP, "use base::Size;", "use base::*;")],
      "crates/top/src/lib.rt: a `use` of a form that .ci/trust does not know"),
     # the public functions
+    ("a method is in no row", [(page.PAGE, "; `base::Size::many`", "")],
+     "no row of docs/TRUST.md names `base::Size::many`"),
+    ("a method becomes public", [(STRUCT, "    fn few", "    pub fn few")],
+     "no row of docs/TRUST.md names `base::Size::few`"),
+    ("a method asks", [(STRUCT, "        ensures { result ≡ count s.now }", "        requires { SizeIs }\n        ensures { result ≡ count s.now }")],
+     "`base::Size::many` is public and has a `requires`"),
     ("one is in no row", [(page.PAGE, "; `base::size_of`", "")],
      "no row of docs/TRUST.md names `base::size_of`"),
     ("an export is in no row", [(page.PAGE, ", `exported`", "")],
      "no row of docs/TRUST.md names `top::part::exported`"),
-    ("one is named in another column", [(page.PAGE, "; `base::size_of`, the size |", "| `base::size_of`")],
+    ("one is named in another column", [(page.PAGE, "; `base::size_of`, the size; `base::Size::many` |", "; `base::Size::many` | `base::size_of`")],
      "no row of docs/TRUST.md names `base::size_of`"),
     ("one becomes public", [(PART, "pub(crate) fn inner", "pub fn inner")],
      "no row of docs/TRUST.md names `top::part::inner`"),
@@ -152,7 +184,9 @@ WRONG = [
      "names `base::gone`, and no public function is called so"),
     ("a row names all at once", [(page.PAGE, "`top::part::outer`, `exported`", "`top::part::*`")],
      "no row of docs/TRUST.md names `top::part::outer`"),
-    ("one asks", [(TOP, "    ensures", "    requires { SizeIs }\n    ensures")],
+    ("a constant has grown", [(TOP, "// How much", "// Of bytes.\n// How much")],
+     "does not say '| top/src/lib.rt | 6 | "),
+    ("one asks", [(TOP, "    ensures most", "    requires { SizeIs }\n    ensures most")],
      "`top::top` is public and has a `requires`"),
     ("one promises nothing", [(PART, "outer()\n    ensures { Unit }\n{", "outer() {")],
      "`top::part::outer` is public and has no `ensures`"),

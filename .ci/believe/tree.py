@@ -83,16 +83,35 @@ class Tree:
         prefix = "::".join([crate] + modules)
         for name in file.public:
             yield f"{prefix}::{name}", file.functions[name]
+        for name, struct in file.structs.items():
+            yield from self.methods(prefix, struct) if struct.text.startswith("pub ") else []
         for name, (path, public) in file.uses.items():
             function = public and self.code(file, path, "functions")
+            struct = public and self.code(file, path, "structs")
             if function:
                 yield f"{prefix}::{name}", function
+            elif struct:
+                yield from self.methods(prefix, struct)
         for name, public in file.inner.items():
             if public:
                 yield from self.public(crate, modules + [name])
 
+    def inside(self, crate, modules):
+        """Every file of code of a crate, from a module on."""
+        file = self.source(crate, modules)
+        if file is not None:
+            yield file
+            for name in file.inner:
+                yield from self.inside(crate, modules + [name])
+
+    def methods(self, prefix, struct):
+        """The public methods of a struct, wherever they stand in its crate, by the path of the struct."""
+        for file in self.inside(struct.file.crate, []):
+            for name, method in file.methods.get(struct.name, {}).items():
+                yield f"{prefix}::{struct.name}::{name}", method
+
     def functions(self):
-        """The public functions by path."""
+        """The public functions and methods by path."""
         return {path: function for crate in self.crates for path, function in self.public(crate, [])}
 
     def reached(self, entries):

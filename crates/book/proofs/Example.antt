@@ -1,9 +1,15 @@
 -- What reading a book promises, and what a book that is a value means, computed: the book of the worked call A, which has three clients and
 -- three bids, no bytes at all, and values that the questions refuse. Nothing cites it. Assumes nothing.
-use mathlib.Core.Path.{◌≡◌, refl}
+use mathlib.Core.Path.{◌≡◌, refl, ◌∙◌}
 use mathlib.Core.List.{List, [], ◌∷◌, ◌++◌, map}
 use Prim.Native.Nat.{ℕ}
+use native.Mathlib.Omega.{arith}
 use lib.ListN.{replicate}
+use Rattle.std.specs.Prelude.{Result, Ok, Err}
+use Rattle.questions.specs.Numbers.{OneNumberEach}
+use Rattle.questions.specs.declared.Question.{Question}
+use Rattle.questions.specs.declared.Question.TheVariants.{Version}
+use Rattle.questions.proofs.Numbers.{one_number_each, number_range}
 use Rattle.sets.specs.Tables.{tabulate}
 use Rattle.book.specs.Bytes.{field, bytes_at}
 use Rattle.book.specs.Lists.{within, all, count, row, all_to, total}
@@ -13,7 +19,7 @@ use Rattle.book.specs.Questions.{version_good, book_formula, counts_ranged, coun
 use Rattle.book.specs.Questions.{bid_good, bids_of, few_bids, bids_good, reserves_met, amounts_good, entries_refusal, book_refusal}
 use Rattle.book.specs.Sound.{no_kind}
 use Rattle.book.specs.Value.{kind_held, status_held, bid_held, book_of, sound_number}
-use Rattle.book.specs.Reading.{cap_of, arrays_of, zero_arrays, ReadingIs}
+use Rattle.book.specs.Reading.{cap_of, arrays_of, ReadingIs}
 use Rattle.book.specs.declared.value.Book.{Book as Arrays}
 use Rattle.book.specs.declared.reading.Reading.{Reading}
 
@@ -44,28 +50,46 @@ arrays k supply cap amount = record {
   amount = 60 ∷ 50 ∷ amount ∷ replicate 45 0;
 }
 
--- READ: every field, of client 3 standing and withdrawn; and zeros after a refusal
+abbrev zero_arrays : Arrays
+zero_arrays = record {
+  k = 0;
+  supply = replicate 4 0;
+  reserve = replicate 4 0;
+  n = 0;
+  caps = replicate 6 0;
+  m = 0;
+  client = replicate 48 0;
+  hours = replicate 192 0;
+  amount = replicate 48 0;
+}
+
+-- READ: every field, of client 3 standing and withdrawn; and no bytes are refused with question 1
 abbrev of_thirty : (third_cap : ℕ) → Reading
-of_thirty cap = record { number = 0; length = 30; book = arrays 1 2 cap 70 }
+of_thirty third = record { length = 30; book = arrays 1 2 third 70 }
 
-abbrev of_none : Reading
-of_none = record { number = 1; length = 0; book = zero_arrays }
+same_reading : (r s : Reading) → r.length ≡ s.length → r.book ≡ s.book → r ≡ s
+same_reading r s long book = λ i. record { length = long i; book = book i }
 
-module _ (r : Reading) where
-  whole : (s : Reading) → r.number ≡ s.number → r.length ≡ s.length → r.book ≡ s.book → r ≡ s
-  whole s number long book = λ i. record { number = number i; length = long i; book = book i }
+-- an answer with the number 0 is the reading that it promises
+is_reading : (bs : List ℕ) (r : Result Reading Question) (s : Reading) → ReadingIs bs r → book_refusal bs ≡ 0 → book_long bs ≡ s.length
+    → arrays_of (book_in bs) ≡ s.book → r ≡ Ok s
+is_reading bs (Ok x) s read zero long book =
+    let e : x ≡ s = same_reading x s (read.accepted.long ∙ long) (read.accepted.held ∙ book) in
+    rw e
+is_reading bs (Err q) s read zero long book = absurd (omega (arith, read.numbered, number_range q))
 
-  read_standing : ReadingIs (bytes 0) r → r ≡ of_thirty 65535
-  unfolding computed
-  read_standing read = whole (of_thirty 65535) read.numbered read.long read.held
+read_standing : (r : Result Reading Question) → ReadingIs (bytes 0) r → r ≡ Ok (of_thirty 65535)
+unfolding computed
+read_standing r read = is_reading (bytes 0) r (of_thirty 65535) read refl refl refl
 
-  read_withdrawn : ReadingIs (bytes 1) r → r ≡ of_thirty 0
-  unfolding computed
-  read_withdrawn read = whole (of_thirty 0) read.numbered read.long read.held
+read_withdrawn : (r : Result Reading Question) → ReadingIs (bytes 1) r → r ≡ Ok (of_thirty 0)
+unfolding computed
+read_withdrawn r read = is_reading (bytes 1) r (of_thirty 0) read refl refl refl
 
-  read_nothing : ReadingIs [] r → r ≡ of_none
-  unfolding computed
-  read_nothing read = whole of_none read.numbered read.long read.held
+read_nothing : (r : Result Reading Question) → ReadingIs [] r → r ≡ Err Version
+unfolding computed OneNumberEach
+read_nothing (Ok x) read = absurd (omega (arith, read.numbered))
+read_nothing (Err q) read = rw (one_number_each q Version read.numbered)
 
 -- MEANT: any cap but 0 is standing
 meant : book_of (arrays 1 2 1 70) ≡ book_in (bytes 0)

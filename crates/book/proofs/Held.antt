@@ -50,7 +50,7 @@ module _ (v : Arrays) where
   held_shaped = shaped_each (book_of v) held_kinds_each
 
 -- what a test picks, and a function of it
-picked : {X Y : Type 0} (f : X → Y) (t : Bool) (x y : X) → f (cond t x y) ≡ cond t (f x) (f y)
+pub picked : {X Y : Type 0} (f : X → Y) (t : Bool) (x y : X) → f (cond t x y) ≡ cond t (f x) (f y)
 picked f true x y = refl
 picked f false x y = refl
 

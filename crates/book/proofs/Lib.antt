@@ -14,10 +14,10 @@ pub mod Lists
 pub mod AskedHours
 pub mod Tally
 pub mod ReservedHours
-pub mod PairedHours
 pub mod HeldTests
 pub mod Whole
 pub mod RoundTrip
+pub mod Inside
 pub mod Entered
 pub mod Answering
 -- The contracts and the definitions at work.

@@ -1,24 +1,41 @@
--- The step of a loop over a list that ends with the first no: after a yes what the rest makes stays what the whole makes, and a no is the
--- answer, as is that of the last. Cited by the proofs of src/tables.rt, src/asked.rt and src/paid.rt. Assumes nothing.
-use mathlib.Core.Path.{◌≡◌, sym, ◌∙◌}
-use mathlib.Core.Bool.{Bool, true, false, and-true}
-use mathlib.Core.List.{List, [], ◌∷◌}
-use Rattle.book.specs.Lists.{all}
+-- A test of all, from a loop that ends with the first no: where each that is passed is good all are, and one that is not is the answer.
+-- Cited by the proofs of src/tables.rt, src/asked.rt and src/paid.rt. Assumes nothing.
+use mathlib.Core.Path.{◌≡◌, refl, sym, ◌∙◌}
+use mathlib.Core.Bool.{Bool, true, false, true≢false}
+use mathlib.Core.List.{List}
+use Prim.Native.Nat.{ℕ, ◌+◌, ◌≤◌, ◌<◌}
+use native.Mathlib.Nat.{le_of_eq}
+use native.Mathlib.Omega.{arith}
+use lib.ListN.{length, get_or}
+use borrow.Author.Count.{below_more}
+use Rattle.book.specs.Lists.{all, row}
+use Rattle.book.proofs.RowLaws.{row_length, row_at}
+use Rattle.book.proofs.Tests.{all_true, true_all}
 
-module _ {A : Type 0} (p : A → Bool) where
-  pub all_kept : (x : A) (xs ys : List A) (t z : Bool) → xs ≡ x ∷ ys → t ≡ p x → t ≡ true → all p xs ≡ z → all p ys ≡ z
-  unfolding all
-  all_kept x xs ys t z e h k q = rw (e, sym h ∙ k) at q
+pub no_more : (t : Bool) → (t ≡ true → ⊥) → t ≡ false
+no_more true h = absurd (h refl)
+no_more false h = refl
 
-  pub all_ended : (x : A) (xs ys : List A) (t z : Bool) → xs ≡ x ∷ ys → t ≡ p x → t ≡ false → all p xs ≡ z → false ≡ z
-  unfolding all
-  all_ended x xs ys t z e h k q = rw (e, sym h ∙ k) at q
+module _ {A : Type 0} (p : A → Bool) (d : A) where
+  pub all_passed : (xs : List A) (i : ℕ) → length xs ≤ i → ((j : ℕ) → j < i → p (get_or xs j d) ≡ true) → true ≡ all p xs
+  all_passed xs i l h = sym (true_all p d xs (λ j k. h j (omega arith)))
 
-  pub all_passed : (xs : List A) (z : Bool) → xs ≡ [] → all p xs ≡ z → true ≡ z
-  unfolding all
-  all_passed xs z e q = rw e at q
+  pub one_not : (xs : List A) (i : ℕ) → i < length xs → p (get_or xs i d) ≡ false → false ≡ all p xs
+  one_not xs i l e = sym (no_more (all p xs) (λ h. true≢false (sym (all_true p d xs h i l) ∙ e)))
 
-  -- of a single one the answer is its own
-  pub all_last : (x : A) (xs : List A) (t z : Bool) → xs ≡ x ∷ [] → t ≡ p x → all p xs ≡ z → t ≡ z
-  unfolding all
-  all_last x xs t z e h q = h ∙ sym (and-true (p x)) ∙ (rw e at q)
+  -- the same of a row
+  pub row_passed : (m i : ℕ) (f : ℕ → A) → m ≤ i → ((j : ℕ) → j < i → p (f j) ≡ true) → true ≡ all p (row m 0 f)
+  row_passed m i f l h =
+      all_passed (row m 0 f) m (le_of_eq (row_length m 0 f)) (λ j k.
+      let here : 0 + j ≡ j = omega arith in
+      rw (row_at m 0 f j d k, here) (h j (omega arith)))
+
+  pub row_not : (m i : ℕ) (f : ℕ → A) → i < m → p (f i) ≡ false → false ≡ all p (row m 0 f)
+  row_not m i f l e =
+      let here : 0 + i ≡ i = omega arith in
+      one_not (row m 0 f) i (omega (arith, row_length m 0 f)) (rw (row_at m 0 f i d l, here) e)
+
+  -- where each is passed but the last, the answer is that of the last
+  pub row_last : (m i : ℕ) (f : ℕ → A) (t : Bool) → m ≡ i + 1 → ((j : ℕ) → j < i → p (f j) ≡ true) → t ≡ p (f i) → t ≡ all p (row m 0 f)
+  row_last m i f true e h q = row_passed m (i + 1) f (omega arith) (below_more _ _ h (sym q))
+  row_last m i f false e h q = row_not m i f (omega arith) (sym q)

@@ -1,5 +1,5 @@
--- Where the i-th of a run stands, and how many kinds, clients and bids the book has that bytes hold. Cited by the proofs of
--- src/filling.rt, by SoundRead and by the layers above. Assumes nothing.
+-- Where the i-th of a run stands, and how many kinds, clients and bids the book has that bytes hold. Cited by Entered, Inside, Answering
+-- and SoundRead, and by the layers above. Assumes nothing.
 use mathlib.Core.Path.{◌≡◌, ap, ◌∙◌}
 use mathlib.Core.List.{List}
 use Prim.Native.Nat.{ℕ, zero, suc, ◌+◌, ◌*◌, ◌-◌, ◌≤◌, ◌<◌}

@@ -1,5 +1,5 @@
 -- The reserves of a bid's hours as four products, those past k kinds with a reserve of 0, and question 5's test against them. Cited by the
--- proofs of src/paid.rt and src/lookups.rt. Assumes nothing.
+-- proofs of src/paid.rt and src/value.rt. Assumes nothing.
 use mathlib.Core.Path.{◌≡◌, ap, ◌∙◌}
 use mathlib.Core.Bool.{Bool}
 use mathlib.Core.List.{List}

@@ -1,5 +1,5 @@
--- A book put into arrays and taken back out is the same book, where the arrays have room for it. Cited by the proofs of src/reading.rt, and
--- for the layers above. Assumes nothing.
+-- A book put into arrays and taken back out is the same book, where the arrays have room for it. Cited by Inside, Entered and Answering,
+-- and for the layers above. Assumes nothing.
 use mathlib.Core.Path.{◌≡◌, refl, sym, ap, ◌∙◌}
 use mathlib.Core.Bool.{true, cond, and-eq-true_iff}
 use mathlib.Core.List.{List}
@@ -18,10 +18,15 @@ use Rattle.book.specs.Questions.{kind_good, status_good, tables_good}
 use Rattle.book.specs.Sound.{no_kind}
 use Rattle.book.specs.Value.{kind_held, status_held, bid_held, book_of}
 use Rattle.book.specs.Reading.{cap_of, arrays_of}
-use Rattle.book.specs.Room.{Room}
 use Rattle.book.proofs.RowLaws.{row_length, row_at}
 use Rattle.book.proofs.Soundness.{KindsEach}
 use Rattle.book.proofs.Tests.{all_true}
+
+-- k kinds, n clients and m bids have their places in the arrays
+pub record Room (k n m : ℕ) : Type 0 where
+  pub kinds : k ≤ 4
+  pub clients : n ≤ 6
+  pub bids : m ≤ 48
 
 -- hours of kind j of the bid at place i
 pub place_bid : (i j : ℕ) → j < 4 → (4 * i + j) / 4 ≡ i

@@ -1,9 +1,8 @@
--- Rows of a function's values: what comes next, how long they are, and what stands at a place. Cited by the proofs of loops over a book
--- that is a value, and by the layers above. Assumes nothing.
+-- Rows of a function's values: how long they are, what stands at a place, and which are the same. Cited by the laws of a book that is a
+-- value, and by the layers above. Assumes nothing.
 use mathlib.Core.Path.{◌≡◌, refl, ap, ◌∙◌}
 use mathlib.Core.Bool.{cond}
-use mathlib.Core.List.{[], ◌∷◌}
-use Prim.Native.Nat.{ℕ, zero, suc, ◌+◌, ◌-◌, ◌≤◌, ◌<◌}
+use Prim.Native.Nat.{ℕ, zero, suc, ◌+◌, ◌≤◌, ◌<◌}
 use native.Mathlib.Nat.{le_of_suc-le-suc}
 use native.Mathlib.Decide.{dec_lt}
 use native.Mathlib.Omega.{arith}
@@ -13,26 +12,6 @@ use borrow.Author.Tests.{lt-ltb, le-ltb}
 use Rattle.book.specs.Lists.{row}
 
 module _ {A : Type 0} where
-  pub row_next : (t i : ℕ) (f : ℕ → A) → 0 < t → row t i f ≡ f i ∷ row (t - 1) (i + 1) f
-  unfolding row
-  row_next zero i f l = absurd (omega arith)
-  row_next (suc t) i f l = let e : suc t - 1 ≡ t = omega arith in rw e
-
-  -- the same past the first entry; a row of one, and of none
-  pub row_second : (t i : ℕ) (f : ℕ → A) → 1 < t → row (t - 1) (i + 1) f ≡ f (i + 1) ∷ row (t - 2) (i + 2) f
-  row_second t i f l =
-      let e : t - 1 - 1 ≡ t - 2 = omega arith in
-      let g : i + 1 + 1 ≡ i + 2 = omega arith in
-      rw (row_next (t - 1) (i + 1) f (omega arith), e, g)
-
-  pub row_one : (t i : ℕ) (f : ℕ → A) → t ≡ 1 → row t i f ≡ f i ∷ []
-  unfolding row
-  row_one t i f e = rw e
-
-  pub row_none : (t i : ℕ) (f : ℕ → A) → t ≡ 0 → row t i f ≡ []
-  unfolding row
-  row_none t i f e = rw e
-
   pub row_length : (t i : ℕ) (f : ℕ → A) → length (row t i f) ≡ t
   unfolding row
   row_length zero i f = refl

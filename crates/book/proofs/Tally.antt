@@ -1,65 +1,86 @@
 -- The counts of each client's bids held to the limit, client by client. Cited by the proofs of src/limit.rt. Assumes nothing.
 use mathlib.Core.Path.{◌≡◌, refl, sym, ap, ap₂, ◌∙◌}
 use mathlib.Core.Bool.{Bool, true, false, ◌&&◌, cond, true≢false}
-use mathlib.Core.List.{List, [], ◌∷◌}
-use Prim.Native.Nat.{ℕ, zero, suc, ◌+◌, ◌≤◌, ◌<◌}
+use mathlib.Core.List.{List}
+use Prim.Native.Nat.{ℕ, zero, suc, ◌+◌, ◌≤◌, ◌<◌, min}
+use native.Mathlib.Decide.{dec_lt}
 use native.Mathlib.Numerals.{add-one}
 use native.Mathlib.Omega.{arith}
 use lib.Dec.{leb, eqb}
-use lib.ListN.{get_or}
+use lib.ListN.{length, get_or, take, drop}
+use lib.Seq.{ext_get_or, drop-cons}
+use mir.Val.{bool_byte}
 use borrow.Author.Tests.{le-leb, lt-leb}
-use Rattle.book.specs.Lists.{all, all_to, count, row}
+use Rattle.std.proofs.lemmas.List.{get_or-take, length-take-le, drop_all}
+use Rattle.book.specs.Lists.{all_to, count, row}
+use Rattle.book.specs.Book.{clients}
 use Rattle.book.specs.Questions.{bids_of, few_bids}
-use Rattle.book.specs.Value.{bid_held}
+use Rattle.book.specs.Value.{bid_held, book_of}
 use Rattle.book.specs.Room.{named}
-use Rattle.book.proofs.Tests.{all_to_true}
+use Rattle.book.specs.declared.value.Book.{Book as Arrays}
+use Rattle.book.proofs.Held.{held_clients}
+use Rattle.book.proofs.RowLaws.{row_length, row_at}
+use Rattle.book.proofs.Tests.{all_to_true, true_all_to}
+use Rattle.book.proofs.Lists.{no_more}
 
 -- how often a number stands in a list, from its front on
 abbrev pub times : (c : ℕ) → List ℕ → ℕ
 times c xs = count (λ x. eqb x c) xs
 
-pub times_next : (c x : ℕ) (xs ys : List ℕ) (before one : ℕ) → xs ≡ x ∷ ys → one ≡ cond (eqb x c) 1 0
-    → before + one + times c ys ≡ before + times c xs
-unfolding count
-times_next c x xs ys before one e o = rw e (omega arith)
-
-pub one_most : (b : Bool) (one : ℕ) → one ≡ cond b 1 0 → one ≤ 1
+-- a bid counts for one or for none
+pub one_most : (b : Bool) (one : ℕ) → one ≡ bool_byte b → one ≤ 1
 one_most true one e = omega arith
 one_most false one e = omega arith
 
-pub times_done : (c : ℕ) (xs : List ℕ) (all whole : ℕ) → xs ≡ [] → all + times c xs ≡ whole → all ≡ whole
+one_is : (b : Bool) → bool_byte b ≡ cond b 1 0
+one_is true = refl
+one_is false = refl
+
+pub times_next : (c i before one : ℕ) (xs : List ℕ) → i < length xs → one ≡ bool_byte (eqb (get_or xs i 0) c)
+    → before + one + times c (drop (i + 1) xs) ≡ before + times c (drop i xs)
 unfolding count
-times_done c xs all whole e h = omega (arith, rw e at h)
+times_next c i before one xs l e = rw (add-one i, drop-cons xs i 0 l, e, one_is) (omega arith)
+
+pub times_done : (c i all : ℕ) (xs : List ℕ) → length xs ≤ i → all + times c (drop i xs) ≡ times c xs → all ≡ times c xs
+unfolding count
+times_done c i all xs l h = omega (arith, rw (drop_all i xs l) at h)
 
 -- a client is named at most eight times
-unfoldable pub few_named : (m : ℕ) → List ℕ → (client : ℕ) → Bool
-few_named m cs c = leb (named c m cs) 8
+unfoldable pub few_named : List ℕ → (client : ℕ) → Bool
+few_named cs c = leb (named c cs) 8
 
 -- a client's count against the limit
-pub few_under : (m : ℕ) (cs : List ℕ) (c n : ℕ) → n ≡ named c m cs → n ≤ 8 → few_named m cs c ≡ true
+pub few_under : (cs : List ℕ) (c n : ℕ) → n ≡ named c cs → n ≤ 8 → few_named cs c ≡ true
 unfolding few_named
-few_under m cs c n e l = le-leb (named c m cs) 8 (omega arith)
+few_under cs c n e l = le-leb (named c cs) 8 (omega arith)
 
-pub few_over : (m : ℕ) (cs : List ℕ) (c n : ℕ) → n ≡ named c m cs → 8 < n → few_named m cs c ≡ false
+pub few_over : (cs : List ℕ) (c n : ℕ) → n ≡ named c cs → 8 < n → few_named cs c ≡ false
 unfolding few_named
-few_over m cs c n e l = lt-leb (named c m cs) 8 (omega arith)
+few_over cs c n e l = lt-leb (named c cs) 8 (omega arith)
 
-no_more : (t : Bool) → (t ≡ true → ⊥) → t ≡ false
-no_more true h = absurd (h refl)
-no_more false h = refl
+-- a test of each client up to one, of one more, and of all; and the first that has too many bids
+pub few_more : (p : ℕ → Bool) (i : ℕ) → ((c : ℕ) → 1 ≤ c → c < i → p c ≡ true) → p i ≡ true → (c : ℕ) → 1 ≤ c → c < i + 1 → p c ≡ true
+few_more p i h e c l k = elim (dec_lt c i) [ yes m ↦ h c l m | no m ↦ let q : c ≡ i = omega arith in rw q e ]
 
--- the limit, one client more, and the first that has too many bids
-pub few_next : (p : ℕ → Bool) (n : ℕ) → all_to n p ≡ true → p (n + 1) ≡ true → all_to (n + 1) p ≡ true
-unfolding all_to
-few_next p n h e = rw (add-one, h) (rw add-one at e)
+pub few_passed : (p : ℕ → Bool) (n i : ℕ) → n < i → ((c : ℕ) → 1 ≤ c → c < i → p c ≡ true) → true ≡ all_to n p
+few_passed p n i l h = sym (true_all_to p n (λ c k m. h c k (omega arith)))
 
-pub one_over : (p : ℕ → Bool) (n c : ℕ) → 1 ≤ c → c ≤ n → p c ≡ false → all_to n p ≡ false
-one_over p n c l k e = no_more (all_to n p) (λ h. true≢false (sym (all_to_true p n h c l k) ∙ e))
+pub one_over : (p : ℕ → Bool) (n c : ℕ) → 1 ≤ c → c ≤ n → p c ≡ false → false ≡ all_to n p
+one_over p n c l k e = sym (no_more (all_to n p) (λ h. true≢false (sym (all_to_true p n h c l k) ∙ e)))
 
 all_to_same : (p q : ℕ → Bool) → ((c : ℕ) → p c ≡ q c) → (n : ℕ) → all_to n p ≡ all_to n q
 unfolding all_to
 all_to_same p q h zero = refl
 all_to_same p q h (suc n) = ap₂ ◌&&◌ (all_to_same p q h n) (h (suc n))
+
+-- the front of a list is a row of its entries
+taken_row : (m : ℕ) (cs : List ℕ) → m ≤ length cs → take m cs ≡ row m 0 (λ i. get_or cs i 0)
+taken_row m cs l =
+    let long : length (take m cs) ≡ m = length-take-le m cs l in
+    ext_get_or 0 (take m cs) _ (long ∙ sym (row_length m 0 (λ i. get_or cs i 0))) (λ i k.
+    let inside : i < m = omega arith in
+    let here : 0 + i ≡ i = omega arith in
+    get_or-take m cs i 0 inside ∙ sym (rw (row_at m 0 (λ i. get_or cs i 0) i 0 inside, here)))
 
 module _ (cs : List ℕ) (k : ℕ) (hs xs : List ℕ) where
   -- how often a client is named is how many bids it has
@@ -68,6 +89,14 @@ module _ (cs : List ℕ) (k : ℕ) (hs xs : List ℕ) where
   times_bids c zero i = refl
   times_bids c (suc t) i = ap (λ (s : ℕ). cond (eqb (get_or cs i 0) c) 1 0 + s) (times_bids c t (i + 1))
 
-  pub few_for_bids : (n m : ℕ) → all_to n (few_named m cs) ≡ all_to n (few_bids (row m 0 (bid_held k cs hs xs)))
+  pub few_for_bids : (n m : ℕ) → m ≤ length cs → all_to n (few_named (take m cs)) ≡ all_to n (few_bids (row m 0 (bid_held k cs hs xs)))
   unfolding few_named few_bids named
-  few_for_bids n m = all_to_same _ _ (λ c. ap (λ (s : ℕ). leb s 8) (times_bids c m 0)) n
+  few_for_bids n m l =
+      all_to_same _ _ (λ c. ap (λ (s : ℕ). leb s 8) (ap (times c) (taken_row m cs l) ∙ times_bids c m 0)) n
+
+-- the same of a book that is a value
+pub few_held : (v : Arrays) (m n : ℕ) → m ≡ min v.m 48 → n ≡ min v.n 6 → 48 ≤ length v.client
+    → all_to n (few_named (take m v.client)) ≡ all_to (clients (book_of v)) (few_bids (book_of v).bids)
+unfolding book_of
+few_held v m n em en l =
+    rw (em, en, held_clients v) (few_for_bids v.client (min v.k 4) v.hours v.amount (min v.n 6) (min v.m 48) (omega arith))

@@ -1,6 +1,6 @@
--- Arrays that hold a table's entries from the front, and nothing past them but zeros, are the table. Cited by the proofs of src/filling.rt.
--- Assumes nothing.
-use mathlib.Core.Path.{◌≡◌, sym, ◌∙◌}
+-- Arrays that hold a table's entries from the front, and nothing past them but zeros, are the table; and a book that is another but for its
+-- arrays of bids. Cited by the proofs of src/filling.rt. Assumes nothing.
+use mathlib.Core.Path.{◌≡◌, sym, ap, ◌∙◌}
 use mathlib.Core.List.{List}
 use Prim.Native.Nat.{ℕ, ◌+◌, ◌*◌, ◌≤◌}
 use native.Mathlib.Decide.{dec_lt}
@@ -8,6 +8,7 @@ use native.Mathlib.Omega.{arith}
 use lib.ListN.{get_or, set}
 use lib.Seq.{ext_get_or}
 use Rattle.sets.specs.Tables.{tabulate}
+use Rattle.book.specs.declared.value.Book.{Book as Arrays}
 use Rattle.sets.proofs.Filled.{Filled, filled_next}
 use Rattle.sets.proofs.Tables.{tabulate_length, tabulate_at}
 
@@ -30,3 +31,11 @@ filled_four n f i xs a b c d l ea eb ec ed h =
     (filled_next n f (4 * i + 3) _ d (omega arith) ed
     (rw two at (filled_next n f (4 * i + 2) _ c (omega arith) ec
     (rw one at (filled_next n f (4 * i + 1) _ b (omega arith) eb (filled_next n f (4 * i) xs a (omega arith) ea h))))))
+
+-- a book v that is w but for the arrays of bids, where these are written once more, and where they are known
+module _ (v w : Arrays) (e : v ≡ record w { client = v.client; hours = v.hours; amount = v.amount }) (cs hs xs : List ℕ) where
+  pub bids_written : record v { client = cs; hours = hs; amount = xs } ≡ record w { client = cs; hours = hs; amount = xs }
+  bids_written = ap (λ (b : Arrays). record b { client = cs; hours = hs; amount = xs }) e
+
+  pub bids_same : v.client ≡ cs → v.hours ≡ hs → v.amount ≡ xs → v ≡ record w { client = cs; hours = hs; amount = xs }
+  bids_same ec eh ex = e ∙ (λ i. record w { client = ec i; hours = eh i; amount = ex i })

@@ -1,7 +1,9 @@
 -- What reading a book answers (FORMAT, "Book"): questions 1 to 5, then the book as a value. The contract of `read`. Assumes nothing: these
 -- are definitions.
-use Rattle.std.specs.Prelude.{◌≡◌, cond, List, ℕ, ◌/◌, ◌%◌, ◌≤◌, eqb, length, get_or, replicate}
+use Rattle.std.specs.Prelude.{◌≡◌, cond, List, ℕ, ◌/◌, ◌%◌, ◌≤◌, Result, IfOk, eqb, length, get_or}
 use Rattle.sets.specs.Tables.{tabulate}
+use Rattle.questions.specs.Numbers.{number_in}
+use Rattle.questions.specs.declared.Question.{Question}
 use Rattle.book.specs.Book.{Book, no_bid, clients}
 use Rattle.book.specs.Layout.{book_long, book_in}
 use Rattle.book.specs.Questions.{book_refusal}
@@ -28,27 +30,18 @@ arrays_of b = record {
   amount = tabulate 48 (λ i. (get_or b.bids i no_bid).amount);
 }
 
--- all zero
-abbrev pub zero_arrays : Arrays
-zero_arrays = record {
-  k = 0;
-  supply = replicate 4 0;
-  reserve = replicate 4 0;
-  n = 0;
-  caps = replicate 6 0;
-  m = 0;
-  client = replicate 48 0;
-  hours = replicate 192 0;
-  amount = replicate 48 0;
-}
-
-pub record ReadingIs (bs : List ℕ) (r : Reading) : Type 0 where
-  -- every field by value, zeros after a refusal
-  pub numbered : r.number ≡ book_refusal bs
-  pub long : r.length ≡ cond (eqb (book_refusal bs) 0) (book_long bs) 0
-  pub held : r.book ≡ cond (eqb (book_refusal bs) 0) (arrays_of (book_in bs)) zero_arrays
+-- what a reading says where every question is answered yes
+pub record Accepted (bs : List ℕ) (r : Reading) : Type 0 where
+  -- the length that the book gives itself, and the book's entries
+  pub long : r.length ≡ book_long bs
+  pub held : r.book ≡ arrays_of (book_in bs)
   -- the book ends inside the bytes
   pub inside : r.length ≤ length bs
-  -- accepted, the value means the book that the bytes hold, and it is sound
-  pub means : r.number ≡ 0 → book_of r.book ≡ book_in bs
-  pub sound : r.number ≡ 0 → sound_number r.book ≡ 0
+  -- the value means the book that the bytes hold, and it is sound
+  pub means : book_of r.book ≡ book_in bs
+  pub sound : sound_number r.book ≡ 0
+
+-- the first question that is answered no, or else the reading
+pub record ReadingIs (bs : List ℕ) (r : Result Reading Question) : Type 0 where
+  pub numbered : number_in r ≡ book_refusal bs
+  pub accepted : IfOk r (Accepted bs)

@@ -1,70 +1,61 @@
-// Question 4, of each bid in a book's arrays by itself. The loop ends with the first bid that is not good.
-ghost use Rattle.std.specs.Prelude.{◌≡◌, ◌&&◌, [], ◌∷◌, ℕ, ◌-◌, ◌≤◌, ◌^◌, leb, take};
+// Question 4, of each bid of a book by itself. The loop ends with the first bid that is not good.
+ghost use Rattle.std.specs.Prelude.{◌≡◌, ◌&&◌, ℕ, ◌-◌, ◌≤◌, ◌^◌, leb, take};
 ghost use Rattle.book.specs.Lists.{within as within_range, all, total};
+ghost use Rattle.book.specs.Book.{clients};
 ghost use Rattle.book.specs.Questions.{bid_good};
-ghost use Rattle.book.specs.Room.{Room, bids_held};
+ghost use Rattle.book.specs.Value.{book_of};
 
 use crate::counts;
+use crate::value::Book;
 
-// The least number in four bytes of which one of the first k is not 0: 256 times for each byte after those.
+// The highest amount.
+const MOST_AMOUNT: usize = 1000000;
+
+// The least number in four bytes of which one of the first k is not 0, by k: each byte after those counts 256 times as much.
+const LEAST: [u64; 5] = [0x1_0000_0000, 0x100_0000, 0x1_0000, 0x100, 1];
+
+// The same, by a look-up: of a shift a compiler makes one for each bid.
 fn least_with_hours(k: usize) -> u64
     requires { k ≤ 4 }
     ensures { result ≡ 256 ^ (4 - k) }
 {
-    let mut least: u64 = 1;
-    let mut after: usize = 0;
-    while after + k < 4 {
-        least = least * 256;
-        after = after + 1;
-    }
-    least
+    LEAST[k]
 }
 
 // Whether four hours, as one number, reach the least that has an hour among the first k.
-fn is_hour_asked(least: u64, a: u8, b: u8, c: u8, d: u8) -> bool
-    ensures { (k : ℕ) → k ≤ 4 → least ≡ 256 ^ (4 - k) → result ≡ leb 1 (total (take k (a ∷ b ∷ c ∷ d ∷ []))) }
+fn is_hour_asked(least: u64, hours: [u8; 4]) -> bool
+    ensures { (k : ℕ) → k ≤ 4 → least ≡ 256 ^ (4 - k) → result ≡ leb 1 (total (take k hours)) }
 {
-    least <= a as u64 * 16777216 + b as u64 * 65536 + c as u64 * 256 + d as u64
+    least <= u64::from(u32::from_be_bytes(hours))
 }
 
 // Whether a bid's client is one of n, it asks for an hour, and its amount is in range.
 fn is_bid_good(client: u8, asks: bool, amount: u32, n: usize) -> bool
     ensures { result ≡ (within_range 1 client n && (asks && within_range 1 amount 1000000)) }
 {
-    let named = counts::within(1, client as usize, n);
-    let paid = counts::within(1, amount as usize, 1000000);
-    numbers::both(named, numbers::both(asks, paid))
+    let named = counts::within(1, usize::from(client), n);
+    let paid = counts::within(1, amount as usize, MOST_AMOUNT);
+    named & (asks & paid)
 }
 
-// Question 4 for all m bids, but for the limit of eight.
-pub(crate) fn every_bid_good(
-    k: usize,
-    n: usize,
-    m: usize,
-    client: &[u8; 48],
-    hours: &[u8; 192],
-    amount: &[u32; 48],
-) -> bool
-    requires { Room k n m }
-    ensures { result ≡ all (bid_good n) (bids_held k m client.now hours.now amount.now) }
+// Question 4 for all bids, but for the limit of eight.
+pub(crate) fn every_bid_good(book: &Book) -> bool
+    ensures { let b = book_of book.now in result ≡ all (bid_good (clients b)) b.bids }
 {
-    let least = least_with_hours(k);
-    let mut i: usize = 0;
-    let mut left = m;
-    while 0 < left {
+    let least = least_with_hours(book.kinds());
+    let n = book.clients();
+    for i in 0..book.bids() {
         let at = 4 * i;
-        let asks = is_hour_asked(
-            least,
-            hours[at],
-            hours[at + 1],
-            hours[at + 2],
-            hours[at + 3],
-        );
-        if !is_bid_good(client[i], asks, amount[i], n) {
+        let hours = [
+            book.hours[at],
+            book.hours[at + 1],
+            book.hours[at + 2],
+            book.hours[at + 3],
+        ];
+        let asks = is_hour_asked(least, hours);
+        if !is_bid_good(book.client[i], asks, book.amount[i], n) {
             return false;
         }
-        i = i + 1;
-        left = left - 1;
     }
     true
 }

@@ -1,31 +1,25 @@
 // Layer 1: reading books. A book's bytes are read once, into a value; nobody above this layer reads a byte of a book.
 //
 // What a client may cite: `Book`, a book as a value, whose meaning `book_of` gives (specs/Value.antt); `read`, which puts questions 1 to 5
-// to bytes and hands out the book (specs/Reading.antt); `sound`, which puts questions 2 to 5 to any value; `client_of`, `hours_of`,
-// `amount_of` and `reserves_of`, what a value says of a bid by its number, `is_standing` of a client, and `supply_of` of the kinds;
-// `client_in`, `amount_in` and `reserves_in`, what every value with some counts and arrays says of a bid, without a copy of the book;
-// `bytes`, big-endian numbers at any place of any bytes, for the sheet's reader. Each takes anything, asks nothing of its caller, and its
-// contract gives its result by value. The laws of proofs/ that are `pub` say what a sound book is (Soundness, SoundRead), what a value says
-// by number (Held), and what the questions say of the bytes (Refusals).
+// to bytes and hands out the book (specs/Reading.antt); `Book::sound`, which puts questions 2 to 5 to any value; `client_of`, `hours_of`,
+// `amount_of` and `reserves_of`, what a value says of a bid by its number, `is_standing` of a client, and `supplies` of the kinds; `bytes`,
+// big-endian numbers at any place of any bytes, for the sheet's reader. Each takes anything, asks nothing of its caller, and its contract
+// gives its result by value. The laws of proofs/ that are `pub` say what a sound book is (Soundness, SoundRead), what a value says by
+// number (Held), and what the questions say of the bytes (Refusals).
 #![tactic(auto)]
 
 mod asked;
 pub mod bytes;
 mod counts;
 mod filling;
+mod kinds;
 mod layout;
 mod limit;
-mod lookups;
 mod paid;
 mod reading;
 mod tables;
 mod test_of_value;
 mod value;
 
-pub use lookups::{
-    amount_in, amount_of, client_in, client_of, hours_of, is_standing, reserves_in, reserves_of,
-    supply_of,
-};
 pub use reading::{Reading, read};
-pub use test_of_value::sound;
 pub use value::Book;

@@ -1,35 +1,36 @@
 // Question 4's limit of eight bids for a client: the bids of one client after another are counted, and the loop ends with the first client
 // that has more.
-ghost use Rattle.std.specs.Prelude.{◌≡◌, List, ℕ, ◌≤◌};
+ghost use Rattle.std.specs.Prelude.{◌≡◌, ◌≤◌, length};
 ghost use Rattle.book.specs.Lists.{all_to};
+ghost use Rattle.book.specs.Book.{clients};
 ghost use Rattle.book.specs.Questions.{few_bids};
-ghost use Rattle.book.specs.Room.{bids_held, named};
+ghost use Rattle.book.specs.Value.{book_of};
+ghost use Rattle.book.specs.Room.{named};
 
-use crate::filling;
+use crate::value::Book;
 
-// How many of m bids a client has.
-fn bids_of(who: u8, m: usize, client: &[u8; 48]) -> u8
-    requires { m ≤ 48 }
-    ensures { result ≡ named who m client.now }
+// The most bids that a client may have.
+const MOST_EACH: u8 = 8;
+
+// How many bids with these clients are one client's: in one byte, so that a compiler counts sixteen at a time.
+fn bids_of(who: u8, clients: &[u8]) -> u8
+    requires { length clients.now ≤ 48 }
+    ensures { result ≡ named who clients.now }
 {
     let mut count: u8 = 0;
-    let mut i: usize = 0;
-    while i < m {
-        count = count + filling::kept(client[i] == who, 1);
-        i = i + 1;
+    for &client in clients {
+        count += u8::from(client == who);
     }
     count
 }
 
-// None of n clients has more than eight of m bids, whatever hours and amounts they have.
-pub(crate) fn few_for_each(n: usize, m: usize, client: &[u8; 48]) -> bool
-    requires { (n ≤ 6) × (m ≤ 48) }
-    ensures { (k : ℕ) (hs xs : List ℕ) → result ≡ all_to n (few_bids (bids_held k m client.now hs xs)) }
+// No client has more than eight bids.
+pub(crate) fn few_for_each(book: &Book) -> bool
+    ensures { let b = book_of book.now in result ≡ all_to (clients b) (few_bids b.bids) }
 {
-    let mut who: usize = 0;
-    while who < n {
-        who = who + 1;
-        if 8 < bids_of(who as u8, m, client) {
+    let bids = &book.client[..book.bids()];
+    for client in 1..=book.clients() {
+        if MOST_EACH < bids_of(client as u8, bids) {
             return false;
         }
     }

@@ -1,44 +1,32 @@
 // The reserves of hours in a book's arrays, and question 5. Two bids are taken at a time, their hours in one number, so that one
 // multiplication for each kind does for both. The loop ends with the first bid that is not good.
-ghost use Rattle.std.specs.Prelude.{◌≡◌, cond, List, ℕ, ◌+◌, ◌*◌, ◌/◌, ◌%◌, ◌≤◌, ◌<◌, leb};
+ghost use Rattle.std.specs.Prelude.{◌≡◌, ◌+◌, ◌*◌, ◌/◌, ◌%◌, ◌≤◌, ◌<◌, leb};
 ghost use Rattle.book.specs.Lists.{all};
 ghost use Rattle.book.specs.Questions.{reserves_met};
-ghost use Rattle.book.specs.Room.{kinds_held, bids_held, first_of, products, second_bid, FourHours, Both};
+ghost use Rattle.book.specs.Value.{book_of};
+ghost use Rattle.book.specs.Room.{products, second_bid, FourHours, Both};
+
+use crate::kinds;
+use crate::value::Book;
 
 // What a byte stays below.
 const BYTE: u64 = 256;
+
 // What the hours of the second, third and fourth kind count where a bid's hours are one number.
 const SECOND_KIND: u64 = 256;
 
 const THIRD_KIND: u64 = 65536;
 
 const FOURTH_KIND: u64 = 16777216;
+
 // What the second of two bids counts where the hours, or the reserves, of both are one number.
 const SECOND_BID: u64 = 4294967296;
-
-// A reserve where there is its kind, and 0 where there is not.
-fn of_first(there: bool, reserve: u16) -> u16
-    ensures { result ≡ cond there reserve 0 }
-{
-    if there { reserve } else { 0 }
-}
-
-// The reserves of the first k kinds; 0 past them, so that hours past them count for nothing.
-pub(crate) fn first_reserves(k: usize, reserve: [u16; 4]) -> [u16; 4]
-    ensures { result ≡ first_of k reserve }
-{
-    let a = of_first(0 < k, reserve[0]);
-    let b = of_first(1 < k, reserve[1]);
-    let c = of_first(2 < k, reserve[2]);
-    let d = of_first(3 < k, reserve[3]);
-    [a, b, c, d]
-}
 
 // The reserves of the hours of one kind: a byte times two bytes, which three bytes hold.
 fn reserves_of_one(hours: u8, reserve: u16) -> u64
     ensures { (result ≡ hours * reserve) × (result < 16777216) }
 {
-    hours as u64 * reserve as u64
+    u64::from(hours) * u64::from(reserve)
 }
 
 // The reserves of the four hours from a place on.
@@ -53,38 +41,28 @@ pub(crate) fn reserves_of_four(hours: &[u8; 192], from: usize, reserve: [u16; 4]
     first + second + third + fourth
 }
 
-// A byte, with its bound.
-fn wide(byte: u8) -> u64
-    ensures { (result ≡ byte) × (result < 256) }
-{
-    byte as u64
-}
-
-// The four hours from a place on as one number, the first in the lowest byte.
-fn four_hours(hours: &[u8; 192], from: usize) -> u64
-    requires { from + 4 ≤ 192 }
-    ensures { FourHours hours.now from result × (result < second_bid) }
-{
-    let first = wide(hours[from]);
-    let second = wide(hours[from + 1]);
-    let third = wide(hours[from + 2]);
-    let fourth = wide(hours[from + 3]);
-    first + second * SECOND_KIND + third * THIRD_KIND + fourth * FOURTH_KIND
-}
-
-// The eight hours from a place on, those of two bids, as one number: of the bytes that are added up a compiler makes one load.
+// The eight hours from a place on, those of two bids, as one number: of the bytes a compiler makes one load.
 fn eight_hours(hours: &[u8; 192], from: usize) -> u64
     requires { from + 8 ≤ 192 }
     ensures { FourHours hours.now from result × FourHours hours.now (from + 4) (result / second_bid) }
 {
-    four_hours(hours, from) + four_hours(hours, from + 4) * SECOND_BID
+    u64::from_le_bytes([
+        hours[from],
+        hours[from + 1],
+        hours[from + 2],
+        hours[from + 3],
+        hours[from + 4],
+        hours[from + 5],
+        hours[from + 6],
+        hours[from + 7],
+    ])
 }
 
 // The reserves of the hours of one kind of two bids, in one number as the hours are: these stand in the lowest byte of each half.
 fn reserves_of_two(number: u64, reserve: u16) -> u64
     ensures { Both (number % 256 * reserve) (number / second_bid % 256 * reserve) result }
 {
-    (number % BYTE + number / SECOND_BID % BYTE * SECOND_BID) * reserve as u64
+    (number % BYTE + number / SECOND_BID % BYTE * SECOND_BID) * u64::from(reserve)
 }
 
 // The reserves of the eight hours from a place on, in one number: those of the first four, and those of the second four.
@@ -105,37 +83,31 @@ fn reserves_of_eight(hours: &[u8; 192], from: usize, reserve: [u16; 4]) -> u64
 fn is_met(least: u64, amount: u32) -> bool
     ensures { result ≡ leb least amount }
 {
-    least <= amount as u64
+    least <= u64::from(amount)
 }
 
-// Question 5 for all m bids, whatever the supplies and the bids' clients are.
-pub(crate) fn amounts_good(
-    k: usize,
-    m: usize,
-    reserve: [u16; 4],
-    hours: &[u8; 192],
-    amount: &[u32; 48],
-) -> bool
-    requires { (k ≤ 4) × (m ≤ 48) }
-    ensures { (ss cs : List ℕ) →
-        result ≡ all (reserves_met (kinds_held k ss reserve)) (bids_held k m cs hours.now amount.now) }
+// Question 5 for all bids.
+pub(crate) fn amounts_good(book: &Book) -> bool
+    ensures { let b = book_of book.now in result ≡ all (reserves_met b.kinds) b.bids }
 {
-    let first = first_reserves(k, reserve);
-    let mut i: usize = 0;
-    let mut left = m;
-    while 1 < left {
-        let both = reserves_of_eight(hours, 4 * i, first);
-        if !is_met(both % SECOND_BID, amount[i]) {
+    let reserves = kinds::first_of(book.kinds(), book.reserve);
+    let m = book.bids();
+    for pair in 0..m / 2 {
+        let i = 2 * pair;
+        let both = reserves_of_eight(&book.hours, 4 * i, reserves);
+        if !is_met(both % SECOND_BID, book.amount[i]) {
             return false;
         }
-        if !is_met(both / SECOND_BID, amount[i + 1]) {
+        if !is_met(both / SECOND_BID, book.amount[i + 1]) {
             return false;
         }
-        i = i + 2;
-        left = left - 2;
     }
-    if left == 0 {
+    if m % 2 == 0 {
         return true;
     }
-    is_met(reserves_of_four(hours, 4 * i, first), amount[i])
+    let last = m - 1;
+    is_met(
+        reserves_of_four(&book.hours, 4 * last, reserves),
+        book.amount[last],
+    )
 }

@@ -5,5 +5,6 @@ pub mod Example
 pub mod DiscountRefusals
 pub mod InRange
 pub mod Signed
+pub mod Parts
 pub mod Steps
 pub mod Tests

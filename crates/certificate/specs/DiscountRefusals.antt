@@ -19,6 +19,10 @@ reserve_number w q ρ x = cond (reserve_in_range w q ρ) (cond (reserve_kept w q
 unfoldable pub slack_test : Certificate → (σ ρ : ℕ → ℕ) → Bool
 slack_test c σ ρ = test slack_sets c σ ρ && test slack_reserve c σ ρ && test slack_zero c σ ρ
 
+-- question 11 alone, which only a private contract cites: 0, 11, or 7 where a number of the certificate, a σ or a ρ is out of range
+abbrev pub within_number : Certificate → (σ ρ : ℕ → ℕ) → ℕ
+within_number c σ ρ = cond (in_range c && tables_fit c.w σ ρ) (cond (test within_sets c σ ρ) 0 11) 7
+
 -- questions 11 and 15: 0, 11, 15, or 7 where a number of the certificate, a σ or a ρ is out of range
 unfoldable pub bounded_number : Certificate → (σ ρ : ℕ → ℕ) → ℕ
 bounded_number c σ ρ =

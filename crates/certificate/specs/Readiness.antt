@@ -1,8 +1,8 @@
 -- Only private contracts and laws cite this: what questions 11 to 15 need in range, as plain facts. Assumes nothing: these are
 -- definitions.
-use Rattle.std.specs.Prelude.{ℕ, ◌*◌, ◌≤◌, ◌<◌, nat_abs}
+use Rattle.std.specs.Prelude.{ℕ, ◌≤◌, ◌<◌}
 use Rattle.pricing.specs.Certificate.{Certificate}
-use Rattle.pricing.specs.Ranges.{most_winners, most_scale, most_discount, most_multiplier, signed}
+use Rattle.pricing.specs.Ranges.{most_winners, most_scale, most_discount, most_multiplier}
 use Rattle.certificate.specs.Bounds.{most_rho, most_sigma}
 use Rattle.certificate.specs.InRange.{WinnersUnder, SetsUnder, Ranges, Tables}
 
@@ -38,13 +38,3 @@ pub record SetsWeigh (w : ℕ) (Y σ : ℕ → ℕ) : Type 0 where
   pub few : w ≤ most_winners
   pub y_most : SetsUnder w most_scale Y
   pub σ_most : SetsUnder w most_sigma σ
-
--- the numbers of question 14 for one winner, G by its bits, u the sum over up to 63 sets
-pub record BalanceFits (q σ x G u r t : ℕ) : Type 0 where
-  pub q_most : q ≤ most_scale
-  pub σ_most : σ ≤ most_sigma
-  pub x_most : x ≤ most_discount
-  pub g_most : nat_abs (signed G) ≤ most_multiplier
-  pub u_most : u ≤ 63 * most_multiplier
-  pub r_most : r ≤ most_multiplier
-  pub t_most : t ≤ most_multiplier

@@ -7,43 +7,34 @@ ghost use Rattle.certificate.specs.Readiness.{Ready};
 
 use crate::ranges::Figures;
 use crate::sums::{held, sets_weighed};
-use numbers::both;
 
 // Question 12.
+#[tactic(auto, using(crate::proofs::Tests::question_steps))]
 pub(crate) fn all_covered(f: Figures) -> bool
     requires { Ranges (certificate f) }
     ensures { (σ ρ : ℕ → ℕ) → result ≡ test cover (certificate f) σ ρ }
 {
     let w = f.w as usize;
-    let s = f.s;
-    let z = f.z;
-    let y = f.y;
     let mut ok = true;
-    let mut j = 0;
-    while j < w {
-        ok = both(ok, s <= z[j] + held(w, j, y));
-        j += 1;
+    for j in 0..w {
+        ok &= f.s <= f.z[j] + held(w, j, &f.y);
     }
     ok
 }
 
 // Question 13.
+#[tactic(auto, using(crate::proofs::Tests::question_steps))]
 pub(crate) fn totals_meet(f: Figures, sigma: [u64; 64], rho: [u64; 6]) -> bool
     requires { Ready (certificate f) (at sigma) (at rho) }
     ensures { result ≡ test totals (certificate f) (at sigma) (at rho) }
 {
     let w = f.w as usize;
-    let x = f.x;
-    let y = f.y;
-    let z = f.z;
-    let sets = sets_weighed(w, y, sigma);
+    let sets = sets_weighed(w, &f.y, &sigma);
     let mut winners = 0;
     let mut given = 0;
-    let mut j = 0;
-    while j < w {
-        winners += z[j] * rho[j];
-        given += x[j];
-        j += 1;
+    for j in 0..w {
+        winners += f.z[j] * rho[j];
+        given += f.x[j];
     }
     f.q * (sets + winners) == f.s * given
 }

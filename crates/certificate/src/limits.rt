@@ -4,10 +4,10 @@ ghost use Rattle.pricing.specs.Ranges.{most_winners, scale_in_range, counts_in_r
 ghost use Rattle.certificate.specs.Figures.{at, certificate};
 ghost use Rattle.certificate.specs.Bounds.{tables_fit, reserve_in_range};
 
-use crate::most::{sets_at_most, winners_at_most};
+use crate::most::at_most;
 use crate::ranges::Figures;
 use crate::signs::g_in_range;
-use numbers::both;
+use numbers::sets_end;
 
 // Winners.
 const MOST_WINNERS: u64 = 6;
@@ -31,82 +31,63 @@ const MOST_SIGMA: u64 = 6_000_000;
 fn scale_in_range(n: u64) -> bool
     ensures { result ≡ scale_in_range n }
 {
-    both(1 <= n, n <= MOST_SCALE)
+    (1 <= n) & (n <= MOST_SCALE)
 }
 
 // The winners' count and both denominators.
 fn counts_in_range(w: u64, q: u64, s: u64) -> bool
     ensures { result ≡ counts_in_range w q s }
 {
-    both(
-        both(w <= MOST_WINNERS, scale_in_range(q)),
-        scale_in_range(s),
-    )
+    (w <= MOST_WINNERS) & scale_in_range(q) & scale_in_range(s)
 }
 
 // The winners' numbers.
-fn winners_in_range(w: usize, x: [u64; 6], z: [u64; 6], r: [u64; 6], t: [u64; 6]) -> bool
-    requires { w ≤ most_winners }
-    ensures { result ≡ winners_in_range w (at x) (at z) (at r) (at t) }
+#[tactic(auto, using(crate::proofs::Parts::winners_part))]
+fn winners_in_range(f: &Figures) -> bool
+    requires { f.now.w ≤ most_winners }
+    ensures { result ≡ winners_in_range f.now.w (at f.now.x) (at f.now.z) (at f.now.r) (at f.now.t) }
 {
-    let discounts = winners_at_most(w, MOST_DISCOUNT, x);
-    let covers = winners_at_most(w, MOST_SCALE, z);
-    let reserves = winners_at_most(w, MOST_MULTIPLIER, r);
-    let zeros = winners_at_most(w, MOST_MULTIPLIER, t);
-    both(both(both(discounts, covers), reserves), zeros)
+    let w = f.w as usize;
+    at_most(&f.x[..w], MOST_DISCOUNT)
+        & at_most(&f.z[..w], MOST_SCALE)
+        & at_most(&f.r[..w], MOST_MULTIPLIER)
+        & at_most(&f.t[..w], MOST_MULTIPLIER)
 }
 
 // The sets' numbers.
-fn sets_in_range(w: usize, y: [u64; 64], u: [u64; 64]) -> bool
-    requires { w ≤ most_winners }
-    ensures { result ≡ sets_in_range w (at y) (at u) }
+#[tactic(auto, using(crate::proofs::Parts::sets_part))]
+fn sets_in_range(f: &Figures) -> bool
+    requires { f.now.w ≤ most_winners }
+    ensures { result ≡ sets_in_range f.now.w (at f.now.y) (at f.now.u) }
 {
-    let covers = sets_at_most(w, MOST_SCALE, y);
-    let bounds = sets_at_most(w, MOST_MULTIPLIER, u);
-    both(covers, bounds)
+    let end = sets_end(f.w as usize);
+    at_most(&f.y[1..end], MOST_SCALE) & at_most(&f.u[1..end], MOST_MULTIPLIER)
 }
 
 // All figures.
+#[tactic(auto, unfolding(pricing::specs::Ranges::in_range))]
 pub(crate) fn in_range(f: Figures) -> bool
     ensures { result ≡ in_range (certificate f) }
 {
-    if !counts_in_range(f.w, f.q, f.s) {
-        return false;
-    }
-    let w = f.w as usize;
-    let x = f.x;
-    let z = f.z;
-    let r = f.r;
-    let t = f.t;
-    let y = f.y;
-    let u = f.u;
-    let winners = winners_in_range(w, x, z, r, t);
-    let sets = sets_in_range(w, y, u);
-    both(both(winners, sets), g_in_range(f.g))
+    counts_in_range(f.w, f.q, f.s) && winners_in_range(&f) & sets_in_range(&f) & g_in_range(f.g)
 }
 
 // The tables of sets and winners.
-pub(crate) fn tables_fit(w: u64, sigma: [u64; 64], rho: [u64; 6]) -> bool
-    ensures { result ≡ tables_fit w (at sigma) (at rho) }
+#[tactic(auto, using(crate::proofs::Parts::winners_part, crate::proofs::Parts::sets_part), unfolding(crate::specs::Bounds::tables_fit))]
+pub(crate) fn tables_fit(w: u64, sigma: &[u64; 64], rho: &[u64; 6]) -> bool
+    ensures { result ≡ tables_fit w (at sigma.now) (at rho.now) }
 {
     if w > MOST_WINNERS {
         return false;
     }
-    let n = w as usize;
-    let sets = sets_at_most(n, MOST_SIGMA, sigma);
-    let winners = winners_at_most(n, MOST_RHO, rho);
-    both(sets, winners)
+    let w = w as usize;
+    at_most(&sigma[1..sets_end(w)], MOST_SIGMA) & at_most(&rho[..w], MOST_RHO)
 }
 
 // What question 10 reads.
-pub(crate) fn reserve_in_range(w: u64, q: u64, rho: [u64; 6]) -> bool
-    ensures { result ≡ reserve_in_range w q (at rho) }
+#[tactic(auto, using(crate::proofs::Parts::winners_part), unfolding(crate::specs::Bounds::reserve_in_range))]
+pub(crate) fn reserve_in_range(w: u64, q: u64, rho: &[u64; 6]) -> bool
+    ensures { result ≡ reserve_in_range w q (at rho.now) }
 {
-    if w > MOST_WINNERS {
-        return false;
-    }
-    both(
-        scale_in_range(q),
-        winners_at_most(w as usize, MOST_RHO, rho),
-    )
+    w <= MOST_WINNERS && scale_in_range(q) & at_most(&rho[..w as usize], MOST_RHO)
 }

@@ -1,10 +1,12 @@
 // An auction certificate in arrays by value, and question 7: whether its figures are in range.
 ghost use Rattle.std.specs.Prelude.{◌≡◌, cond};
+ghost use Rattle.questions.specs.Numbers.{number_in};
 ghost use Rattle.pricing.specs.Ranges.{in_range};
 ghost use Rattle.certificate.specs.Figures.{certificate};
 
-use crate::chain::answer;
+use crate::asking::ask;
 use crate::limits::in_range;
+use questions::Question;
 
 // A certificate: w winners, the denominators q and s, the 64 bits of G in two's complement, then x, z, r and t by winner, y and u by
 // the set's number. Entries from w up, set 0 and sets from 2^w up are not looked at.
@@ -22,9 +24,9 @@ pub struct Figures {
     pub u: [u64; 64],
 }
 
-// Question 7: 0, or 7.
-pub fn ranges(f: Figures) -> u8
-    ensures { result ≡ cond (in_range (certificate f)) 0 7 }
+// Question 7.
+pub fn ranges(f: Figures) -> Result<(), Question>
+    ensures { number_in result ≡ cond (in_range (certificate f)) 0 7 }
 {
-    answer(in_range(f), 0, 7)
+    ask(in_range(f), Question::Ranges)
 }

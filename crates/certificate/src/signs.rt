@@ -5,33 +5,26 @@ ghost use Rattle.certificate.specs.Figures.{above, below};
 
 use crate::limits::MOST_MULTIPLIER;
 
-// 2^63: from here up the sign bit is set.
-const HALF: u64 = 9_223_372_036_854_775_808;
-
-// 2^64 - 1.
-const LAST: u64 = 18_446_744_073_709_551_615;
-
 // The part above zero.
+#[tactic(auto, using(std::proofs::lemmas::Int::ints, std::proofs::lemmas::Int::clamps), unfolding(crate::specs::Figures::above))]
 pub(crate) fn part_above(bits: u64) -> u64
     ensures { result ≡ above bits }
 {
-    if bits < HALF { bits } else { 0 }
+    bits.cast_signed().max(0).unsigned_abs()
 }
 
 // The part below zero, without its sign.
+#[tactic(auto, using(std::proofs::lemmas::Int::ints), unfolding(crate::specs::Figures::below))]
 pub(crate) fn part_below(bits: u64) -> u64
     ensures { result ≡ below bits }
 {
-    if bits < HALF { 0 } else { LAST - bits + 1 }
+    bits.cast_signed().min(0).unsigned_abs()
 }
 
 // Whether G, without its sign, is at most its bound.
+#[tactic(auto, using(std::proofs::lemmas::Int::ints), unfolding(pricing::specs::Ranges::signed, pricing::specs::Ranges::g_in_range))]
 pub(crate) fn g_in_range(bits: u64) -> bool
     ensures { result ≡ g_in_range (signed bits) }
 {
-    if bits < HALF {
-        bits <= MOST_MULTIPLIER
-    } else {
-        LAST - bits + 1 <= MOST_MULTIPLIER
-    }
+    bits.cast_signed().unsigned_abs() <= MOST_MULTIPLIER
 }

@@ -4,18 +4,15 @@ ghost use Rattle.certificate.specs.Figures.{at};
 ghost use Rattle.certificate.specs.InRange.{Reserves};
 ghost use Rattle.certificate.specs.DiscountRefusals.{reserve_kept};
 
-use numbers::both;
-
 // Question 10.
-pub(crate) fn reserve_kept(w: usize, q: u64, x: [u64; 6], rho: [u64; 6]) -> bool
-    requires { Reserves w q (at rho) }
-    ensures { result ≡ reserve_kept w q (at rho) (at x) }
+#[tactic(auto, using(crate::proofs::Steps::steps), unfolding(crate::specs::DiscountRefusals::reserve_kept))]
+pub(crate) fn reserve_kept(w: usize, q: u64, x: &[u64; 6], rho: &[u64; 6]) -> bool
+    requires { Reserves w q (at rho.now) }
+    ensures { result ≡ reserve_kept w q (at rho.now) (at x.now) }
 {
     let mut ok = true;
-    let mut j = 0;
-    while j < w {
-        ok = both(ok, x[j] <= q * rho[j]);
-        j += 1;
+    for j in 0..w {
+        ok &= x[j] <= q * rho[j];
     }
     ok
 }

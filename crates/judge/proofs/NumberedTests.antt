@@ -24,8 +24,3 @@ pub two_yes : (s t : Bool) (n later : ℕ) → n ≡ cond s (cond t 0 9) 8 → n
 two_yes true true n later e l = refl
 two_yes true false n later e l = absurd (omega arith)
 two_yes false t n later e l = absurd (omega arith)
-
-pub two_most : (s t : Bool) (n : ℕ) → n ≡ cond s (cond t 0 9) 8 → n ≤ 9
-two_most true true n e = omega arith
-two_most true false n e = omega arith
-two_most false t n e = omega arith

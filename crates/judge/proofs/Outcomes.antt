@@ -1,6 +1,6 @@
--- The two outcomes of reading a sheet: refused, with nothing but zeros, or read. Cited by the proof of `read` and by the controls. Assumes
+-- The two outcomes of reading a sheet: refused, or read. Cited by the proof of `read` and by the controls. Assumes
 -- nothing.
-use mathlib.Core.Path.{◌≡◌, refl, sym, ap, ◌∙◌}
+use mathlib.Core.Path.{◌≡◌, sym, ap, ◌∙◌}
 use mathlib.Core.Bool.{Bool, true, false, cond}
 use mathlib.Core.List.{List, []}
 use Prim.Native.Nat.{ℕ, ◌≤◌, min}
@@ -15,7 +15,10 @@ use Rattle.pricing.specs.Certificate.{Certificate}
 use Rattle.demands.specs.Sheet.{sheet_w, numbers_in, sheet_in}
 use Rattle.demands.specs.Questions.{form_good}
 use Rattle.demands.proofs.Form.{form_few}
-use Rattle.judge.specs.Reading.{FormIs, zero_figures, SheetRead}
+use Rattle.judge.specs.Reading.{FormIs, SheetRead}
+use Rattle.questions.specs.declared.Question.TheVariants.{Form}
+use Rattle.std.specs.Prelude.{Ok, Err}
+use Rattle.std.proofs.Common.{rules}
 use Rattle.judge.proofs.BidNumbers.{bids_front}
 
 -- a book of n clients and nothing else: what is said of every book is said of this one
@@ -35,29 +38,15 @@ module _ (part : List ℕ) (n : ℕ) (good : Bool) (tested : FormIs part n good)
       let n_few = bare_clients (min n 6) in
       form_few (bare_book (min n 6)) part (omega (arith, n_few)) (sym (tested (bare_book (min n 6)) n_few) ∙ e)
 
-  pub refused_read : (f : Figures) → good ≡ false → f ≡ zero_figures
-      → SheetRead part n (record { number = 6; bids = replicate 6 0; figures = f })
-  refused_read f bad zero =
-      record {
-        numbered = numbered 6 (rw bad);
-        bids = λ h. absurd (omega arith);
-        held = λ h. absurd (omega arith);
-        no_bids = λ h. refl;
-        no_figures = λ h. zero;
-      }
+  pub refused_read : good ≡ false → SheetRead part n (Err Form)
+  refused_read bad = record { numbered = numbered 6 (rw bad); bids = search rules; held = search rules }
 
   pub sheet_read : (w : ℕ) (bids : List ℕ) (f : Figures) → good ≡ true → w ≡ sheet_w part
       → bids ≡ tabulate 6 (at (sheet_in part).bids) → certificate f ≡ numbers_in w part
-      → SheetRead part n (record { number = 0; bids = bids; figures = f })
+      → SheetRead part n (Ok (record { bids = bids; figures = f }))
   unfolding sheet_in numbers_in
   sheet_read w bids f fine count each numbers =
       let c : certificate f ≡ (sheet_in part).numbers = numbers ∙ ap (λ (v : ℕ). numbers_in v part) count in
       let of_w : f.w ≡ sheet_w part = ap (λ (x : Certificate). x.w) c in
       let is : take f.w bids ≡ (sheet_in part).bids = rw (of_w, each) (bids_front part (few_winners fine)) in
-      record {
-        numbered = numbered 0 (rw fine);
-        bids = λ h. each;
-        held = λ h i. record { bids = is i; numbers = c i };
-        no_bids = λ h. absurd (h refl);
-        no_figures = λ h. absurd (h refl);
-      }
+      record { numbered = numbered 0 (rw fine); bids = each; held = λ i. record { bids = is i; numbers = c i } }

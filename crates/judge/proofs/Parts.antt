@@ -1,11 +1,17 @@
 -- What the bytes of a sheet give over a book that is a value: a refusal by question 6, or the sheet that arrays hold, and the answer to it.
--- Cited by the proof of `answer_over`. Assumes nothing.
-use mathlib.Core.Path.{◌≡◌, ap, ◌∙◌}
-use mathlib.Core.Bool.{true, cond}
+-- Cited by the proof of `judged`. Assumes nothing.
+use mathlib.Core.Path.{◌≡◌, sym, ap, ◌∙◌}
+use mathlib.Core.Bool.{true}
 use mathlib.Core.List.{List}
-use Prim.Native.Nat.{ℕ, ◌≤◌, ◌<◌}
+use Prim.Native.Nat.{ℕ, ◌≤◌, ◌<◌, min}
 use native.Mathlib.Omega.{arith}
-use Rattle.book.specs.Book.{Book}
+use lib.ListN.{length}
+use Rattle.sets.proofs.Tables.{tabulate_length}
+use Rattle.std.specs.Prelude.{Ok, Err}
+use Rattle.questions.specs.Numbers.{number_of}
+use Rattle.questions.specs.declared.Question.{Question}
+use Rattle.questions.proofs.Numbers.{number_range}
+use Rattle.book.specs.Book.{Book, clients}
 use Rattle.book.specs.Value.{book_of, sound_number}
 use Rattle.book.specs.declared.value.Book.{Book as Arrays}
 use Rattle.book.proofs.Held.{held_clients}
@@ -23,31 +29,34 @@ use Rattle.judge.specs.declared.sheet.SheetReading.{SheetReading}
 use Rattle.judge.proofs.Judging.{refused_form, refused_sheet, accepted_sheet}
 use Rattle.judge.proofs.NumberedTests.{answered_no, answered_yes}
 
+-- a sheet is read into six bid numbers
+pub six_bids : (part : List ℕ) (n : ℕ) (s : SheetReading) → SheetRead part n (Ok s) → length s.bids ≡ 6
+six_bids part n s read = ap length read.bids ∙ tabulate_length 6 _
+
 -- figures that are accepted are in range
 pub held_ranges : (b : Book) (bids : List ℕ) (f : Figures) (n : ℕ) → n ≡ judged b (sheet_held bids f) → n ≤ 0 → Ranges (certificate f)
 held_ranges b bids f n e l = (in_range_iff (certificate f)).0 (judged_passed b (sheet_held bids f) (omega arith)).ranges
 
-module _ (v : Arrays) (part : List ℕ) (sound : sound_number v ≡ 0) (s : SheetReading) (read : SheetRead part v.n s) where
-  form_number : s.number ≡ cond (form_good (book_of v) part) 0 6
-  form_number = read.numbered (book_of v) (held_clients v)
+module _ (v : Arrays) (part : List ℕ) (sound : sound_number v ≡ 0) (n : ℕ) (of_n : n ≡ v.n) where
+  -- the number of clients, as question 6 takes it
+  clients_here : clients (book_of v) ≡ min n 6
+  clients_here = held_clients v ∙ ap (λ (k : ℕ). min k 6) (sym of_n)
 
-  pub form_no : 0 < s.number → refusal s.number ≡ answer_of (call_of v part)
-  form_no l =
-      let q = answered_no (form_good (book_of v) part) 6 s.number form_number l in
-      ap refusal q.1 ∙ refused_form (call_of v part) sound q.0
+  pub form_no : (q : Question) → SheetRead part n (Err q) → refusal (number_of q) ≡ answer_of (call_of v part)
+  form_no q read =
+      let no = answered_no (form_good (book_of v) part) 6 (number_of q) (read.numbered (book_of v) clients_here) (number_range q).0 in
+      ap refusal no.1 ∙ refused_form (call_of v part) sound no.0
 
-  module _ (z : s.number ≤ 0) (n : ℕ) (e : n ≡ judged (book_of v) (sheet_held s.bids s.figures)) where
+  module _ (s : SheetReading) (read : SheetRead part n (Ok s)) (m : ℕ) (e : m ≡ judged (book_of v) (sheet_held s.bids s.figures)) where
     form_yes : form_good (book_of v) part ≡ true
-    form_yes = answered_yes (form_good (book_of v) part) 6 s.number (omega arith) form_number z
+    form_yes =
+        answered_yes (form_good (book_of v) part) 6 0 (omega arith) (read.numbered (book_of v) clients_here) (omega arith)
 
-    held : sheet_held s.bids s.figures ≡ sheet_in part
-    held = read.held (omega arith)
+    judged_part : m ≡ judged (book_of v) (sheet_in part)
+    judged_part = e ∙ ap (judged (book_of v)) read.held
 
-    judged_part : n ≡ judged (book_of v) (sheet_in part)
-    judged_part = e ∙ ap (judged (book_of v)) held
+    pub sheet_no : 0 < m → refusal m ≡ answer_of (call_of v part)
+    sheet_no = refused_sheet (call_of v part) sound form_yes m judged_part
 
-    pub sheet_no : 0 < n → refusal n ≡ answer_of (call_of v part)
-    sheet_no = refused_sheet (call_of v part) sound form_yes n judged_part
-
-    pub sheet_yes : n ≤ 0 → acceptance (book_of v) (sheet_held s.bids s.figures) ≡ answer_of (call_of v part)
-    sheet_yes l = ap (acceptance (book_of v)) held ∙ accepted_sheet (call_of v part) sound form_yes n judged_part l
+    pub sheet_yes : m ≤ 0 → acceptance (book_of v) (sheet_held s.bids s.figures) ≡ answer_of (call_of v part)
+    sheet_yes l = ap (acceptance (book_of v)) read.held ∙ accepted_sheet (call_of v part) sound form_yes m judged_part l

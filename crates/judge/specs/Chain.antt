@@ -1,6 +1,8 @@
--- What the private functions that put questions 7 to 15 ask and answer. No public function asks anything. Assumes nothing: these are
+-- What the private functions that put questions 7 to 15 ask, and the answer that a result stands for. No public function asks anything. Assumes nothing: these are
 -- definitions.
-use Rattle.std.specs.Prelude.{◌≡◌, true, List, ℕ, ◌^◌, ◌<◌, get_or, take}
+use Rattle.std.specs.Prelude.{◌≡◌, true, List, ℕ, ◌^◌, ◌<◌, get_or, take, Result, Ok, Err}
+use Rattle.questions.specs.declared.Question.{Question}
+use Rattle.questions.specs.Numbers.{number_of}
 use Rattle.book.specs.Book.{Book}
 use Rattle.book.specs.Value.{book_of, sound_number}
 use Rattle.book.specs.declared.value.Book.{Book as Arrays}
@@ -10,6 +12,9 @@ use Rattle.certificate.specs.declared.ranges.Figures.{Figures}
 use Rattle.demands.specs.Sheet.{Sheet}
 use Rattle.demands.specs.Winners.{sigma, rho}
 use Rattle.demands.specs.Questions.{certificate_tests, first_no}
+use Rattle.demands.specs.Answer.{Answer, refusal}
+use Rattle.judge.specs.declared.prices.Prices.{Prices}
+use Rattle.judge.specs.Judgement.{answer_in}
 
 -- questions 10 to 15 in a row
 unfoldable pub certificate_judged : Book → Sheet → ℕ
@@ -20,3 +25,8 @@ pub record WeighedSheet (v : Arrays) (bids : List ℕ) (f : Figures) (table : Li
   pub sound : sound_number v ≡ 0
   pub ranges : in_range (certificate f) ≡ true
   pub surpluses : (L : ℕ) → L < 2 ^ f.w → get_or table L 0 ≡ sigma (book_of v) (take f.w bids) L
+
+-- the answer that a result stands for: its prices, or the refusal of a question
+abbrev pub answer_with : Result Prices Question → Answer
+answer_with (Ok prices) = answer_in prices
+answer_with (Err question) = refusal (number_of question)

@@ -1,6 +1,8 @@
 -- What reading a sheet gives: the contract of `read`. The layers above take what they need of a sheet from here. Assumes nothing: these
 -- are definitions.
-use Rattle.std.specs.Prelude.{◌≡◌, Bool, cond, List, ◌≢◌, ℕ, min, take, replicate}
+use Rattle.std.specs.Prelude.{◌≡◌, Bool, cond, List, ℕ, min, take, Result, IfOk}
+use Rattle.questions.specs.declared.Question.{Question}
+use Rattle.questions.specs.Numbers.{number_in}
 use Rattle.sets.specs.Tables.{tabulate}
 use Rattle.market.specs.Market.{at}
 use Rattle.book.specs.Book.{Book, clients}
@@ -18,29 +20,10 @@ FormIs part n good = (b : Book) → clients b ≡ min n 6 → good ≡ form_good
 abbrev pub sheet_held : (bids : List ℕ) → Figures → Sheet
 sheet_held is f = record { bids = take f.w is; numbers = certificate f }
 
--- figures that are all 0
-abbrev pub zero_figures : Figures
-zero_figures =
-    record {
-      w = 0;
-      q = 0;
-      s = 0;
-      g = 0;
-      x = replicate 6 0;
-      z = replicate 6 0;
-      r = replicate 6 0;
-      t = replicate 6 0;
-      y = replicate 64 0;
-      u = replicate 64 0;
-    }
-
 -- what is read of the bytes after a book of n clients
-pub record SheetRead (part : List ℕ) (n : ℕ) (r : SheetReading) : Type 0 where
-  -- 0 where question 6 is answered by yes, else 6
-  pub numbered : (b : Book) → clients b ≡ min n 6 → r.number ≡ cond (form_good b part) 0 6
-  -- where the number is 0, the sheet's bid numbers with zeros after them, and with the figures the sheet
-  pub bids : r.number ≡ 0 → r.bids ≡ tabulate 6 (at (sheet_in part).bids)
-  pub held : r.number ≡ 0 → sheet_held r.bids r.figures ≡ sheet_in part
-  -- nothing, where it is not
-  pub no_bids : r.number ≢ 0 → r.bids ≡ replicate 6 0
-  pub no_figures : r.number ≢ 0 → r.figures ≡ zero_figures
+pub record SheetRead (part : List ℕ) (n : ℕ) (r : Result SheetReading Question) : Type 0 where
+  -- the sheet where question 6 is answered by yes, else its number
+  pub numbered : (b : Book) → clients b ≡ min n 6 → number_in r ≡ cond (form_good b part) 0 6
+  -- the sheet's bid numbers with zeros after them, and with the figures the sheet
+  pub bids : IfOk r (λ s. s.bids ≡ tabulate 6 (at (sheet_in part).bids))
+  pub held : IfOk r (λ s. sheet_held s.bids s.figures ≡ sheet_in part)

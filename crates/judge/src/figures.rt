@@ -3,66 +3,48 @@
 ghost use Rattle.std.specs.Prelude.{◌≡◌, ◌≤◌};
 ghost use Rattle.certificate.specs.Figures.{certificate};
 ghost use Rattle.demands.specs.Sheet.{numbers_in};
-ghost use Rattle.judge.specs.Reading.{zero_figures};
 
-use crate::columns::{number_at, sets_column, winners_column};
+use crate::columns::column;
+use book::bytes;
 use certificate::ranges::Figures;
 
-// How far behind a winner's first byte, or a set's, each number begins.
-const X: usize = 0;
-
+// How far behind X, a winner's first number, the others begin; and U behind Y, a set's first.
 const Z: usize = 8;
 
 const R: usize = 12;
 
 const T: usize = 20;
 
-const Y: usize = 0;
-
 const U: usize = 4;
-
-// All zero.
-pub(crate) fn no_figures() -> Figures
-    ensures { result ≡ zero_figures }
-{
-    Figures {
-        w: 0,
-        q: 0,
-        s: 0,
-        g: 0,
-        x: [0; 6],
-        z: [0; 6],
-        r: [0; 6],
-        t: [0; 6],
-        y: [0; 64],
-        u: [0; 64],
-    }
-}
 
 // The figures of a sheet with w winners.
 pub(crate) fn figures_of(part: &[u8], w: usize) -> Figures
     requires { w ≤ 6 }
     ensures { certificate result ≡ numbers_in w part.now }
 {
-    let q = number_at(part, 4 + w, false);
-    let s = number_at(part, 8 + w, false);
-    let x = winners_column(part, w, X, true);
-    let z = winners_column(part, w, Z, false);
-    let r = winners_column(part, w, R, true);
-    let t = winners_column(part, w, T, true);
-    let g = number_at(part, 12 + 29 * w, true);
-    let y = sets_column(part, w, Y, false);
-    let u = sets_column(part, w, U, true);
+    let end = numbers::sets_end(w);
     Figures {
         w: w as u64,
-        q,
-        s,
-        g,
-        x,
-        z,
-        r,
-        t,
-        y,
-        u,
+        q: u64::from(bytes::u32_at(part, 4 + w)),
+        s: u64::from(bytes::u32_at(part, 8 + w)),
+        g: bytes::u64_at(part, 12 + 29 * w),
+        x: column(0, w, |j| bytes::u64_at(part, 12 + w + 28 * j)),
+        z: column(
+            0,
+            w,
+            |j| u64::from(bytes::u32_at(part, 12 + w + 28 * j + Z)),
+        ),
+        r: column(0, w, |j| bytes::u64_at(part, 12 + w + 28 * j + R)),
+        t: column(0, w, |j| bytes::u64_at(part, 12 + w + 28 * j + T)),
+        y: column(
+            1,
+            end,
+            |set| u64::from(bytes::u32_at(part, 20 + 29 * w + 12 * (set - 1))),
+        ),
+        u: column(
+            1,
+            end,
+            |set| bytes::u64_at(part, 20 + 29 * w + 12 * (set - 1) + U),
+        ),
     }
 }

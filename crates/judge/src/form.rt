@@ -4,13 +4,12 @@ ghost use Rattle.demands.specs.Sheet.{sheet_w, sheet_formula};
 ghost use Rattle.judge.specs.Reading.{FormIs};
 
 use book::bytes;
-use numbers::both;
 
 // The number of winners, at place 3.
 pub(crate) fn winners_of(part: &[u8]) -> usize
     ensures { result ≡ sheet_w part.now }
 {
-    bytes::byte_at(part, 3) as usize
+    usize::from(bytes::byte_at(part, 3))
 }
 
 // The length of a sheet with w winners: 20 bytes, 29 for each winner and 12 for each non-empty set.
@@ -27,13 +26,12 @@ pub(crate) fn is_form_good(part: &[u8], n: usize) -> bool
     ensures { FormIs part.now n result }
 {
     let w = winners_of(part);
-    if numbers::smaller(n, 6) < w {
+    if n.min(6) < w {
         return false;
     }
     let version = bytes::byte_at(part, 0);
-    let own = bytes::u16_at(part, 1) as usize;
+    let own = usize::from(bytes::u16_at(part, 1));
     let formula = length_of(w);
-    let start = both(4 <= part.len(), version == 1);
-    let lengths = both(own == formula, part.len() == formula);
-    both(start, lengths)
+    let start = (4 <= part.len()) & (version == 1);
+    start & ((own == formula) & (part.len() == formula))
 }

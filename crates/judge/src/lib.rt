@@ -12,31 +12,43 @@ mod form;
 mod prices;
 pub mod sheet;
 
+ghost use Rattle.std.specs.Prelude.{◌≡◌};
+ghost use Rattle.demands.specs.Answer.{answer_of};
 ghost use Rattle.demands.specs.Call.{call_in, call_of};
+ghost use Rattle.judge.specs.Chain.{answer_with};
 ghost use Rattle.judge.specs.Judgement.{Judgement};
 
 use book::Book;
 pub use prices::Prices;
+use questions::Question;
+
+// Questions 1 to 15 of an input, and the prices.
+fn judged_input(input: &[u8]) -> Result<Prices, Question>
+    ensures { answer_with result ≡ answer_of (call_in input.now) }
+{
+    let reading = book::read(input)?;
+    let from = usize::from(reading.length);
+    chain::judged(&reading.book, &input[from..])
+}
+
+// Questions 2 to 15 of a book that is a value and the bytes of a sheet, and the prices.
+fn judged_value(book: &Book, part: &[u8]) -> Result<Prices, Question>
+    ensures { answer_with result ≡ answer_of (call_of book.now part.now) }
+{
+    book.sound()?;
+    chain::judged(book, part)
+}
 
 // Questions 1 to 15 of an input: a book, and the sheet in the bytes after it.
 pub fn judge_sheet(input: &[u8]) -> Prices
     ensures { Judgement (call_in input.now) result }
 {
-    let reading = book::read(input);
-    if 0 < reading.number {
-        return prices::refused(reading.number);
-    }
-    let from = reading.length as usize;
-    chain::answer_over(reading.book, &input[from..])
+    judged_input(input).unwrap_or_else(prices::refused)
 }
 
 // Questions 2 to 5 of a book that is a value, then 6 to 15 of the bytes of a sheet.
-pub fn judge_over(book: Book, part: &[u8]) -> Prices
-    ensures { Judgement (call_of book part.now) result }
+pub fn judge_over(book: &Book, part: &[u8]) -> Prices
+    ensures { Judgement (call_of book.now part.now) result }
 {
-    let number = book::sound(book);
-    if 0 < number {
-        return prices::refused(number);
-    }
-    chain::answer_over(book, part)
+    judged_value(book, part).unwrap_or_else(prices::refused)
 }

@@ -8,15 +8,15 @@ ghost use Rattle.sets.specs.Tables.{tabulate};
 ghost use Rattle.demands.specs.Sheet.{sheet_in};
 ghost use Rattle.judge.specs.Reading.{SheetRead};
 
-use crate::figures::{figures_of, no_figures};
+use crate::figures::figures_of;
 use crate::form;
 use book::bytes;
 use certificate::ranges::Figures;
+use questions::Question;
 
-// A sheet: 0 or the number of the question that refuses it, the bid numbers of the winners, and its figures.
+// A sheet: the bid numbers of the winners, and its figures.
 #[derive(Clone, Copy)]
 pub struct SheetReading {
-    pub number: u8,
     pub bids: [u8; 6],
     pub figures: Figures,
 }
@@ -25,33 +25,22 @@ pub struct SheetReading {
 pub fn bids_of(part: &[u8]) -> [u8; 6]
     ensures { result ≡ tabulate 6 (at (sheet_in part.now).bids) }
 {
-    let w = numbers::smaller(form::winners_of(part), 6);
+    let w = form::winners_of(part).min(6);
     let mut bids = [0; 6];
-    let mut j = 0;
-    while j < w {
+    for j in 0..w {
         bids[j] = bytes::byte_at(part, 4 + j);
-        j += 1;
     }
     bids
 }
 
-// Question 6 over a book of n clients, and the sheet where it is answered by yes. Number 6, and zeros, where it is not.
-pub fn read(part: &[u8], n: usize) -> SheetReading
+// The sheet, where question 6 over a book of n clients is answered by yes.
+pub fn read(part: &[u8], n: usize) -> Result<SheetReading, Question>
     ensures { SheetRead part.now n result }
 {
     if !form::is_form_good(part, n) {
-        let figures = no_figures();
-        return SheetReading {
-            number: 6,
-            bids: [0; 6],
-            figures,
-        };
+        return Err(Question::Form);
     }
     let bids = bids_of(part);
     let figures = figures_of(part, form::winners_of(part));
-    SheetReading {
-        number: 0,
-        bids,
-        figures,
-    }
+    Ok(SheetReading { bids, figures })
 }

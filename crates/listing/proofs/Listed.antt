@@ -11,6 +11,7 @@ use borrow.Author.Tests.{eq-eqb, ne_eqb, eqb-true}
 use Rattle.market.proofs.Bools.{cond_true, cond_false, cond_cases}
 use Rattle.sets.specs.Tables.{tabulate}
 use Rattle.market.specs.Market.{at}
+use Rattle.std.specs.Prelude.{Ok}
 use Rattle.book.specs.Value.{book_of}
 use Rattle.book.specs.Reading.{ReadingIs}
 use Rattle.book.specs.declared.reading.Reading.{Reading}
@@ -24,7 +25,7 @@ use Rattle.text.specs.declared.Text.{Text}
 use Rattle.text.specs.Text.{capacity, blank, pushes, holding}
 use Rattle.text.proofs.Pushes.{pushes_blank_holding}
 use Rattle.listing.specs.Listing.{accepted_word, line, winner_lines, accepted_text, refused_text, listing_of, Listed}
-use Rattle.listing.proofs.Pushing.{part_more, winners_alike}
+use Rattle.listing.proofs.Pushing.{first_lines, part_more, winners_alike}
 use Rattle.listing.proofs.Limits.{accepted_few, accepted_most, refused_most}
 
 -- the text by the number
@@ -74,30 +75,23 @@ module _ (bs : List ℕ) (r : Answer) (e : r ≡ answer_of (call_in bs)) where
     of_winners x = winner_lines (call_in bs).book (sheet (call_in bs)).bids x.w x.prices
 
     -- they were pushed for what was read of the input
-    pub accepted_listed : (b : Reading) (bids : List ℕ) → ReadingIs bs b → b.number ≤ 0
-        → bids ≡ tabulate 6 (at (sheet_in (take (length bs - b.length) (drop b.length bs))).bids)
+    pub accepted_listed : (b : Reading) (from : ℕ) (bids : List ℕ) → ReadingIs bs (Ok b) → from ≡ b.length
+        → bids ≡ tabulate 6 (at (sheet_in (take (length bs - from) (drop from bs))).bids) → length r.prices ≡ 6
         → (first t : Text) → first ≡ pushes blank (line accepted_word (r.w ∷ r.q ∷ []))
-        → t ≡ pushes first (winner_lines (book_of b.book) bids r.w r.prices) → Listed bs t
+        → t ≡ pushes first (first_lines (book_of b.book) bids r.w r.prices) → Listed bs t
     unfolding accepted_text
-    accepted_listed b bids read z six first t f p =
+    accepted_listed b from bids read start six long first t f p =
         let c = call_in bs in
-        let call = read_call bs b read z in
-        let lines : winner_lines (book_of b.book) bids r.w r.prices ≡ of_winners r =
-        ap (λ (is : List ℕ). winner_lines (book_of b.book) is r.w r.prices) six
-        ∙ winners_alike (book_of b.book) _ r.w r.prices winners_few
+        let call = read_call bs b read in
+        let lines : first_lines (book_of b.book) bids r.w r.prices ≡ of_winners r =
+        ap (λ (is : List ℕ). first_lines (book_of b.book) is r.w r.prices) (rw start at six)
+        ∙ winners_alike (book_of b.book) _ r.w r.prices winners_few long
         ∙ ap (λ (x : Call). winner_lines x.book (sheet x).bids r.w r.prices) call in
         pushed_listed bs (accepted_text c) t (listing_accepted c is_accepted)
         (part_more blank first t (line accepted_word (r.w ∷ r.q ∷ [])) (of_winners r) f (p ∙ ap (pushes first) lines)
         ∙ ap (λ (x : Answer). pushes blank (line accepted_word (x.w ∷ x.q ∷ []) ++ of_winners x)) e)
 
--- as many bytes are there as are counted
-pub listed_counted : (bs : List ℕ) (t : Text) → Listed bs t → t.len ≤ length t.bytes
-unfolding holding
-listed_counted bs t h =
-    let xs = listing_of (call_in bs) in
-    rw h.text (omega (arith, length-append xs (replicate (128 - length xs) 0)))
-
--- and no more than there is room for: so none was left out
+-- the array has just the room for it: so none of the text was left out
 pub listed_whole : (bs : List ℕ) (t : Text) → Listed bs t → length t.bytes ≡ capacity
 unfolding holding
 listed_whole bs t h =

@@ -9,33 +9,41 @@ ghost use Rattle.std.specs.Io.KnownBytes.{Consumes, IsAtEnd};
 use std::io;
 use std::io::Read;
 
-// Reads until the array is full, the input ends or a read fails, and says how many bytes it put at the start of the array.
-fn read_full<R: Read>(reader: &mut R, into: &mut [u8]) -> (usize, io::Result<()>)
-    ensures within { result.0 ≤ length into.new }
-    ensures bytes { Consumes (R.remaining reader.old) (R.remaining reader.new) (take result.0 into.new) }
-    ensures all { OnOk result.1 (result.0 < length into.new → IsAtEnd (R.remaining reader.new)) }
+// How many bytes were read, and whether a read failed then.
+#[derive(Drop)]
+struct Filled {
+    len: usize,
+    end: io::Result<()>,
+}
+
+// Reads until the array is full, the input ends or a read fails; what was read stands at the start of the array.
+fn read_full<R: Read>(reader: &mut R, into: &mut [u8]) -> Filled
+    ensures within { result.len ≤ length into.new }
+    ensures bytes { Consumes (R.remaining reader.old) (R.remaining reader.new) (take result.len into.new) }
+    ensures all { OnOk result.end (result.len < length into.new → IsAtEnd (R.remaining reader.new)) }
 {
-    let mut n: usize = 0;
-    while n < into.len() {
-        match reader.read(&mut into[n..]) {
-            Ok(0) => return (n, Ok(())),
-            Ok(more) => n += more,
-            Err(error) => return (n, Err(error)),
+    let mut len = 0;
+    while len < into.len() {
+        match reader.read(&mut into[len..]) {
+            Ok(0) => break,
+            Ok(more) => len += more,
+            Err(error) => return Filled {
+                len,
+                end: Err(error),
+            },
         }
     }
-    (n, Ok(()))
+    Filled { len, end: Ok(()) }
 }
 
 fn main(rt: HostRuntime) {
-    let mut input = [0u8; listing::LOOKED_AT];
-    let (n, _) = read_full(&mut rt.stdin(), &mut input);
-    if n == 0 {
+    let mut input = [0; listing::LOOKED_AT];
+    let filled = read_full(&mut rt.stdin(), &mut input);
+    if filled.len == 0 {
         let _ = rt.stderr().write_all(b"price_list: the input is empty\n");
     }
-    let list = listing::price_list_of(input, n);
-    let bytes = list.bytes;
-    let len = list.len;
-    let written = rt.stdout().write_all(&bytes[..len]);
+    let list = listing::price_list_of(&input[..filled.len]);
+    let written = rt.stdout().write_all(list.as_slice());
     if written.is_err() {
         let _ = rt
             .stderr()

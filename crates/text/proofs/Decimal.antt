@@ -1,24 +1,15 @@
 -- Laws of decimal digits: by size, that the fuel makes no difference, how many there are, which bytes they are, and that they read back
--- as the number. Cited by the proof of `push_decimal`, and by its callers. Assumes nothing.
+-- as the number. Cited by the proof of `Text::push_decimal`, and by its callers. Assumes nothing.
 use Prim.Native.Nat.{ℕ, zero, suc, ◌+◌, ◌-◌, ◌*◌, ◌/◌, ◌%◌, ◌^◌, ◌≤◌, ◌<◌}
 use native.Mathlib.Nat.{pow-suc}
 use native.Mathlib.Omega.{arith}
-use mathlib.Core.Bool.{Bool, true, false}
 use mathlib.Core.List.{List, [], ◌∷◌, ◌++◌}
-use mathlib.Core.Logic.{◌⊎◌, inl, inr, ⊎_elim}
+use mathlib.Core.Logic.{⊎_elim}
 use mathlib.Core.Path.{◌≡◌, refl, sym, ap, ◌∙◌}
-use lib.Dec.{ltb}
 use lib.ListN.{length, get_or, length-append, get_or-append}
-use borrow.Author.Tests.{ltb-true, ltb-false, lt-ltb, le-ltb}
+use borrow.Author.Tests.{lt-ltb, le-ltb}
+use Rattle.std.proofs.lemmas.Bool.{cases_lt}
 use Rattle.text.specs.Decimal.{ascii_zero, digits, decimal, worth}
-
--- below ten or not
-sizes : (n : ℕ) → (n < 10) ⊎ (10 ≤ n)
-sizes n = go (ltb n 10) refl
-  where
-    go : (t : Bool) → ltb n 10 ≡ t → (n < 10) ⊎ (10 ≤ n)
-    go true e = inl (ltb-true n 10 e)
-    go false e = inr (ltb-false n 10 e)
 
 -- with fuel left, a number below ten is one digit
 digits_one : (fuel n : ℕ) → n < 10 → digits (suc fuel) n ≡ (ascii_zero + n) ∷ []
@@ -40,7 +31,7 @@ digits_enough (suc fuel) (suc more) n h k =
     (λ (large : 10 ≤ n). digits_more fuel n large
     ∙ ap (λ (ds : List ℕ). ds ++ (ascii_zero + n % 10) ∷ []) (digits_enough fuel more (n / 10) (omega arith) (omega arith))
     ∙ sym (digits_more more n large))
-    (sizes n)
+    (cases_lt n 10)
 
 -- a number below ten is one digit
 pub decimal_one : (n : ℕ) → n < 10 → decimal n ≡ (ascii_zero + n) ∷ []
@@ -60,7 +51,7 @@ decimal_induction P small large n = go (suc n) n (omega arith)
   where
     go : (fuel n : ℕ) → n < fuel → P n
     go zero n h = absurd (omega arith)
-    go (suc fuel) n h = ⊎_elim (small n) (λ (l : 10 ≤ n). large n l (go fuel (n / 10) (omega arith))) (sizes n)
+    go (suc fuel) n h = ⊎_elim (small n) (λ (l : 10 ≤ n). large n l (go fuel (n / 10) (omega arith))) (cases_lt n 10)
 
 -- there is a digit
 pub decimal_nonempty : (n : ℕ) → 1 ≤ length (decimal n)
@@ -68,7 +59,7 @@ decimal_nonempty n =
     ⊎_elim
     (λ (small : n < 10). rw (decimal_one n small) (omega arith))
     (λ (large : 10 ≤ n). rw (decimal_more n large, length-append) (omega arith))
-    (sizes n)
+    (cases_lt n 10)
 
 -- a number below 10 ^ (k + 1) has at most k + 1 digits
 pub decimal_length : (k n : ℕ) → n < 10 ^ suc k → length (decimal n) ≤ suc k
@@ -78,7 +69,7 @@ decimal_length (suc k) n h =
     (λ (small : n < 10). rw (decimal_one n small) (omega arith))
     (λ (large : 10 ≤ n). rw (decimal_more n large, length-append)
     (omega (arith, decimal_length k (n / 10) (omega (arith, pow-suc 10 (suc k))))))
-    (sizes n)
+    (cases_lt n 10)
 
 -- a 64-bit number has at most 20
 pub decimal_length_word : (n : ℕ) → n < 2 ^ 64 → length (decimal n) ≤ 20

@@ -1,13 +1,14 @@
 -- Laws of pushed bytes: one byte with room and without, a list in two parts, and what blank text holds after a list, be it too long or not.
--- Cited by the proofs of `push` and `push_decimal`, and by their callers. Assumes nothing.
+-- Cited by the proofs of `Text`'s methods, and by their callers. Assumes nothing.
 use Prim.Native.Nat.{ℕ, suc, ◌+◌, ◌-◌, ◌≤◌, ◌<◌}
 use native.Mathlib.Nat.{eq-or-lt_of_le}
 use native.Mathlib.Omega.{arith}
 use mathlib.Core.List.{List, [], ◌∷◌, ◌++◌, append_assoc, append-nil}
 use mathlib.Core.Logic.{inl, inr}
 use mathlib.Core.Path.{◌≡◌, refl, sym, ap, ◌∙◌}
-use lib.ListN.{length, replicate, set, take, length-append}
-use lib.Seq.{set-append_seam, take_all, take_at}
+use native.Mathlib.Numerals.{add-one}
+use lib.ListN.{length, get_or, replicate, set, take, length-append}
+use lib.Seq.{set-append_seam, take-suc, take_all, take_at}
 use borrow.Author.Tests.{lt-ltb, le-ltb}
 use Rattle.text.specs.declared.Text.{Text}
 use Rattle.text.specs.Text.{capacity, blank, pushed, pushes, holding}
@@ -32,6 +33,11 @@ pushes_append t (x ∷ xs) ys = pushes_append (pushed t x) xs ys
 pub pushes_snoc : (t : Text) (xs : List ℕ) (b : ℕ) → pushes t (xs ++ b ∷ []) ≡ pushed (pushes t xs) b
 unfolding pushes
 pushes_snoc t xs b = pushes_append t xs (b ∷ [])
+
+-- one byte more of a list is one push more
+pub pushes_more : (t : Text) (xs : List ℕ) (i : ℕ) → i < length xs
+    → pushes t (take (i + 1) xs) ≡ pushed (pushes t (take i xs)) (get_or xs i 0)
+pushes_more t xs i within = rw (add-one i, take-suc xs i 0 within) (pushes_snoc t (take i xs) (get_or xs i 0))
 
 -- full text takes no list
 pub pushes_full : (t : Text) (xs : List ℕ) → capacity ≤ t.len → pushes t xs ≡ t
@@ -78,9 +84,3 @@ pushes_blank_cut xs = pushes_holding [] xs (omega arith)
 -- and so all of them, where they are no more
 pub pushes_blank_holding : (xs : List ℕ) → length xs ≤ capacity → pushes blank xs ≡ holding xs
 pushes_blank_holding xs fits = pushes_blank_cut xs ∙ ap holding (take_all capacity xs fits)
-
--- the same, field by field
-pub pushes_blank : (xs : List ℕ) → length xs ≤ capacity
-    → ((pushes blank xs).len ≡ length xs) × ((pushes blank xs).bytes ≡ xs ++ replicate (capacity - length xs) 0)
-unfolding holding
-pushes_blank xs fits = rw (pushes_blank_holding xs fits) (refl, refl)

@@ -1,4 +1,4 @@
--- The decimal digits of a number, as ASCII bytes. Cited by the contract of `push_decimal`, and by its callers. Assumes nothing.
+-- The decimal digits of a number, as ASCII bytes. Cited by the contract of `Text::push_decimal`, and by its callers. Assumes nothing.
 use Rattle.std.specs.Prelude.{ℕ, zero, suc, ◌+◌, ◌-◌, ◌*◌, ◌/◌, ◌%◌, true, false, List, [], ◌∷◌, ◌++◌, ◌≡◌, refl, ltb}
 
 -- the byte of the digit 0

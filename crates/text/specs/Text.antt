@@ -1,5 +1,4 @@
--- What text is after bytes have been put behind it. Cited by the contracts of `empty`, `push` and `push_decimal`, and by their callers.
--- Assumes nothing.
+-- What text is after bytes have been put behind it. Cited by the contracts of the methods of `Text`, and by their callers. Assumes nothing.
 use Rattle.std.specs.Prelude.{ℕ, ◌+◌, ◌-◌, cond, List, [], ◌∷◌, ◌++◌, ltb, length, replicate, set}
 use Rattle.text.specs.declared.Text.{Text}
 

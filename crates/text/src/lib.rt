@@ -1,10 +1,10 @@
 // Text in a fixed array of 128 bytes: bytes are put one behind the other, and what no longer fits is left out. A caller may cite the
-// contracts of `empty`, `push` and `push_decimal`, the definitions of specs/ and the laws of proofs/. No function asks anything of its
-// caller.
+// contracts of the methods of `Text`, the definitions of specs/ and the laws of proofs/. No method asks anything of its caller, and none
+// can fail.
 #![tactic(auto)]
 
-ghost use Rattle.std.specs.Prelude.{◌≡◌, ◌+◌, ◌%◌};
-ghost use Rattle.text.specs.Decimal.{ascii_zero, decimal};
+ghost use Rattle.std.specs.Prelude.{◌≡◌, take};
+ghost use Rattle.text.specs.Decimal.{decimal};
 ghost use Rattle.text.specs.Text.{blank, pushed, pushes};
 
 // How many bytes there is room for.
@@ -18,47 +18,50 @@ pub struct Text {
     pub len: usize,
 }
 
-// No byte yet: zeros, none of them counted.
-pub fn empty() -> Text
-    ensures { result ≡ blank }
-{
-    Text {
-        bytes: [0; CAPACITY],
-        len: 0,
-    }
-}
-
-// `b` behind the bytes of `t`; where there is no room left, `t` as it is.
-pub fn push(t: Text, b: u8) -> Text
-    ensures { result ≡ pushed t b }
-{
-    let at = t.len;
-    if at < CAPACITY {
-        let mut bytes = t.bytes;
-        bytes[at] = b;
+impl Text {
+    // No byte yet: zeros, none of them counted.
+    pub fn new() -> Text
+        ensures { result ≡ blank }
+    {
         Text {
-            bytes: bytes,
-            len: at + 1,
+            bytes: [0; CAPACITY],
+            len: 0,
         }
-    } else {
-        t
     }
-}
 
-// The last decimal digit of `n`, in ASCII.
-fn last_digit(n: u64) -> u8
-    ensures { result ≡ ascii_zero + n % 10 }
-{
-    b'0' + (n % 10) as u8
-}
+    // The bytes that have been put there; all 128 where `len` is greater.
+    pub fn as_slice(&self) -> &[u8]
+        ensures { result.now ≡ take self.now.len self.now.bytes }
+    {
+        &self.bytes[..self.len.min(CAPACITY)]
+    }
 
-// The decimal digits of `n` behind the bytes of `t`, in ASCII: those of `n / 10`, where there are any, and then the last one.
-pub fn push_decimal(t: Text, n: u64) -> Text
-    ensures { result ≡ pushes t (decimal n) }
-{
-    if n < 10 {
-        push(t, last_digit(n))
-    } else {
-        push(push_decimal(t, n / 10), last_digit(n))
+    // Puts a byte behind the others; where there is no room left, the text stays as it is.
+    pub fn push(&mut self, byte: u8)
+        ensures { self.new ≡ pushed self.old byte }
+    {
+        if self.len < CAPACITY {
+            self.bytes[self.len] = byte;
+            self.len += 1;
+        }
+    }
+
+    // Puts the bytes of a word behind the others.
+    pub fn push_all(&mut self, word: &[u8])
+        ensures { self.new ≡ pushes self.old word.now }
+    {
+        for &byte in word {
+            self.push(byte);
+        }
+    }
+
+    // Puts the decimal digits of a number behind the others, in ASCII: those of its tenth, where there are any, and then the last one.
+    pub fn push_decimal(&mut self, n: u64)
+        ensures { self.new ≡ pushes self.old (decimal n) }
+    {
+        if 10 <= n {
+            self.push_decimal(n / 10);
+        }
+        self.push(b'0' + (n % 10) as u8);
     }
 }

@@ -5,115 +5,81 @@
 // the field does not have changes nothing; bytes that are no sound book read as zeros, and these are then changed.
 ghost use Rattle.std.specs.Prelude.{◌≤◌};
 
-use book::{Book, bytes};
+use book::{Book, Reading, bytes};
+
+// How many bytes a change takes.
+const CHANGE: usize = 6;
 
 // The bytes after the first n.
 pub(crate) fn after(s: &[u8], n: usize) -> &[u8] {
-    if n <= s.len() { &s[n..] } else { &s[0..0] }
+    s.get(n..).unwrap_or(&[])
 }
 
-// How many bytes the changes take, with their count.
-fn width(s: &[u8]) -> usize
-    ensures { result ≤ 1531 }
+// How many changes there are.
+fn count_of(s: &[u8]) -> usize
+    ensures { result ≤ 255 }
 {
-    let count = bytes::byte_at(s, 0) as usize;
-    1 + 6 * count
+    usize::from(bytes::byte_at(s, 0))
 }
 
-fn with_kind(book: Book, field: u8, place: usize, low: u8, two: u16) -> Book {
-    if 4 <= place {
-        return book;
-    }
-    let mut other = book;
-    if field == 1 {
-        let mut supply = book.supply;
-        supply[place] = low;
-        other.supply = supply;
-        return other;
-    }
-    let mut reserve = book.reserve;
-    reserve[place] = two;
-    other.reserve = reserve;
-    other
+// The bytes after the changes.
+fn book_part(s: &[u8]) -> &[u8] {
+    after(s, 1 + CHANGE * count_of(s))
 }
 
-fn with_cap(book: Book, place: usize, cap: u16) -> Book {
-    if 6 <= place {
-        return book;
+// Puts a number at a place, where there is one.
+fn put<T: Copy>(xs: &mut [T], place: usize, x: T) {
+    if let Some(slot) = xs.get_mut(place) {
+        *slot = x;
     }
-    let mut other = book;
-    let mut caps = book.caps;
-    caps[place] = cap;
-    other.caps = caps;
-    other
 }
 
-fn with_hours(book: Book, place: usize, hours: u8) -> Book {
-    if 192 <= place {
-        return book;
-    }
-    let mut other = book;
-    let mut all = book.hours;
-    all[place] = hours;
-    other.hours = all;
-    other
-}
-
-fn with_bid(book: Book, field: u8, place: usize, low: u8, four: u32) -> Book {
-    if 48 <= place {
-        return book;
-    }
-    let mut other = book;
-    if field == 6 {
-        let mut client = book.client;
-        client[place] = low;
-        other.client = client;
-        return other;
-    }
-    let mut amount = book.amount;
-    amount[place] = four;
-    other.amount = amount;
-    other
-}
-
-fn with_count(book: Book, field: u8, count: u8) -> Book {
-    let mut other = book;
-    match field {
-        0 => other.k = count,
-        3 => other.n = count,
-        _ => other.m = count,
-    }
-    other
-}
-
-// The book with the change that the bytes begin with.
-fn changed(book: Book, s: &[u8]) -> Book {
+// Makes the change that the bytes begin with.
+fn change(book: &mut Book, s: &[u8]) {
     let field = bytes::byte_at(s, 0);
-    let place = bytes::byte_at(s, 1) as usize;
+    let place = usize::from(bytes::byte_at(s, 1));
     let low = bytes::byte_at(s, 5);
     match field {
-        1 | 2 => with_kind(book, field, place, low, bytes::u16_at(s, 4)),
-        4 => with_cap(book, place, bytes::u16_at(s, 4)),
-        6 | 8 => with_bid(book, field, place, low, bytes::u32_at(s, 2)),
-        7 => with_hours(book, place, low),
-        _ => with_count(book, field, low),
+        0 => book.k = low,
+        1 => put(&mut book.supply, place, low),
+        2 => put(&mut book.reserve, place, bytes::u16_at(s, 4)),
+        3 => book.n = low,
+        4 => put(&mut book.caps, place, bytes::u16_at(s, 4)),
+        6 => put(&mut book.client, place, low),
+        7 => put(&mut book.hours, place, low),
+        8 => put(&mut book.amount, place, bytes::u32_at(s, 2)),
+        _ => book.m = low,
     }
 }
+
+// A length of 0, and a book of zeros.
+pub(crate) const NOTHING: Reading = Reading {
+    length: 0,
+    book: Book {
+        k: 0,
+        supply: [0; 4],
+        reserve: [0; 4],
+        n: 0,
+        caps: [0; 6],
+        m: 0,
+        client: [0; 48],
+        hours: [0; 192],
+        amount: [0; 48],
+    },
+};
 
 // The book with all its changes.
 pub(crate) fn book_of(s: &[u8]) -> Book {
-    let reading = book::read(after(s, width(s)));
-    let mut book = reading.book;
-    let count = bytes::byte_at(s, 0) as usize;
-    for i in 0..count {
-        book = changed(book, after(s, 1 + 6 * i));
+    let mut book = book::read(book_part(s)).unwrap_or(NOTHING).book;
+    for i in 0..count_of(s) {
+        change(&mut book, after(s, 1 + CHANGE * i));
     }
     book
 }
 
 // What follows the book's bytes; all of them where they are no sound book.
 pub(crate) fn behind(s: &[u8]) -> &[u8] {
-    let from = width(s);
-    let reading = book::read(after(s, from));
-    after(s, from + reading.length as usize)
+    let part = book_part(s);
+    let reading = book::read(part).unwrap_or(NOTHING);
+    after(part, usize::from(reading.length))
 }

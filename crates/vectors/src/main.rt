@@ -50,6 +50,9 @@ fn print_line(out: &impl Print, label: &[u8], letter: u8, s: &[u8]) -> io::Resul
     out.write_all(b"\n")
 }
 
+// How many bytes of a line are taken; more are left out.
+const ROOM: usize = 4096;
+
 // Prints the answer to the line that begins at a place, and says where the next one begins. A line that cannot be written is passed over.
 fn run_line(out: &impl Print, lines: &[u8], from: usize) -> usize
     requires { from < length lines.now }
@@ -57,7 +60,7 @@ fn run_line(out: &impl Print, lines: &[u8], from: usize) -> usize
 {
     let colon = text::find(lines, from, b':');
     let end = text::find(lines, colon, b'\n');
-    let mut bytes = [0u8; 4096];
+    let mut bytes = [0; ROOM];
     let n = text::unhex(&lines[colon..end], &mut bytes);
     let _ = print_line(out, &lines[from..colon], lines[from], &bytes[..n]);
     end + 1

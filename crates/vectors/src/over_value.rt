@@ -1,83 +1,83 @@
 // Operations over a book that is a value: what a letter stands for, and its answer printed.
-use crate::change::after;
-use crate::{change, print};
+use crate::change::{self, after};
+use crate::print::{self, number, numbers};
 use book::{Book, bytes};
-use std::io;
+use std::{array, io};
+use winners::Weighed;
 
 // The number of the first question that the book fails, or its supplies.
 pub(crate) fn alone(out: &impl Print, letter: u8, s: &[u8]) -> io::Result<()> {
     let book = change::book_of(s);
     match letter {
-        b'S' => print::next(out, book::sound(book) as u64),
-        _ => print::four(out, book::supply_of(book)),
+        b'S' => number(out, print::code(&book.sound())),
+        _ => numbers(out, &book.supplies()),
     }
 }
 
-fn one_if(yes: bool) -> u64 {
-    if yes { 1 } else { 0 }
-}
-
-// Of a bid, its client, amount and reserves, by the operations over a book's arrays.
-fn print_lent(out: &impl Print, book: Book, number: usize) -> io::Result<()> {
-    print::next(out, book::client_in(book.m, &book.client, number) as u64)?;
-    print::next(out, book::amount_in(book.m, &book.amount, number) as u64)?;
-    print::next(
-        out,
-        book::reserves_in(book.k, book.reserve, book.m, &book.hours, number),
-    )
+// Of a bid, its client, amount and reserves.
+fn print_lent(out: &impl Print, book: &Book, bid: usize) -> io::Result<()> {
+    number(out, book.client_of(bid))?;
+    number(out, book.amount_of(bid))?;
+    number(out, book.reserves_of(bid))
 }
 
 // What the book has under a number, of a bid or of a client.
 pub(crate) fn by_number(out: &impl Print, letter: u8, s: &[u8]) -> io::Result<()> {
-    let number = bytes::byte_at(s, 0) as usize;
+    let place = usize::from(bytes::byte_at(s, 0));
     let book = change::book_of(after(s, 1));
     match letter {
-        b'c' => print::next(out, book::client_of(book, number) as u64),
-        b'a' => print::next(out, book::amount_of(book, number) as u64),
-        b'r' => print::next(out, book::reserves_of(book, number)),
-        b'l' => print_lent(out, book, number),
-        b'h' => print::four(out, book::hours_of(book, number)),
-        _ => print::next(out, one_if(book::is_standing(book, number))),
+        b'c' => number(out, book.client_of(place)),
+        b'a' => number(out, book.amount_of(place)),
+        b'r' => number(out, book.reserves_of(place)),
+        b'l' => print_lent(out, &book, place),
+        b'h' => numbers(out, &book.hours_of(place)),
+        _ => number(out, u8::from(book.is_standing(place))),
     }
 }
 
-// Six bytes from the second on.
-fn six_of(s: &[u8]) -> [u8; 6] {
-    let a = bytes::byte_at(s, 1);
-    let b = bytes::byte_at(s, 2);
-    let c = bytes::byte_at(s, 3);
-    let d = bytes::byte_at(s, 4);
-    let e = bytes::byte_at(s, 5);
-    let f = bytes::byte_at(s, 6);
-    [a, b, c, d, e, f]
+// As many places as there can be, of which the first six are the bytes from the second on.
+fn list_of(s: &[u8]) -> [u8; 255] {
+    array::from_fn(|i| if i < 6 {
+        bytes::byte_at(after(s, 1), i)
+    } else {
+        0
+    })
 }
 
 fn print_worth(out: &impl Print, s: &[u8]) -> io::Result<()> {
     let book = change::book_of(after(s, 1));
-    print::worth(out, winners::greatest_of(book, bytes::byte_at(s, 0)))
+    print::worth(
+        out,
+        winners::greatest_of(&book, bytes::byte_at(s, 0)).into(),
+    )
 }
 
 fn print_table(out: &impl Print, s: &[u8]) -> io::Result<()> {
     let book = change::book_of(after(s, 7));
-    let count = bytes::byte_at(s, 0) as usize;
-    print::table(out, winners::surpluses_of(book, six_of(s), count))
+    let count = usize::from(bytes::byte_at(s, 0));
+    let clients = list_of(s);
+    print::table(out, &winners::surpluses_of(&book, &clients[..count]).into())
 }
 
 fn print_weighed(out: &impl Print, s: &[u8]) -> io::Result<()> {
     let book = change::book_of(after(s, 7));
-    let count = bytes::byte_at(s, 0) as usize;
-    let weighed = winners::weigh(book, six_of(s), count);
-    let clients = weighed.clients;
-    let sigma = weighed.sigma;
-    print::next(out, weighed.number as u64)?;
-    print::next(out, weighed.value)?;
-    print::six_bytes(out, clients)?;
-    print::sets(out, &sigma)
+    let count = usize::from(bytes::byte_at(s, 0));
+    let bids = list_of(s);
+    let answer = winners::weigh(&book, &bids[..count]);
+    number(out, print::code(&answer))?;
+    let weighed = answer.unwrap_or(Weighed {
+        value: 0,
+        clients: [0; 6],
+        sigma: [0; 64],
+    });
+    number(out, weighed.value)?;
+    numbers(out, &weighed.clients)?;
+    numbers(out, &weighed.sigma)
 }
 
 fn print_answer(out: &impl Print, s: &[u8]) -> io::Result<()> {
     let book = change::book_of(s);
-    print::answer(out, judge::judge_over(book, change::behind(s)))
+    print::answer(out, judge::judge_over(&book, change::behind(s)))
 }
 
 pub(crate) fn weighed(out: &impl Print, letter: u8, s: &[u8]) -> io::Result<()> {

@@ -1,69 +1,43 @@
 // Numbers and answers printed, a space before each number.
 use judge::Prices;
+use questions::Question;
+use std::fmt::Display;
 use std::io;
 use winners::{SigmaTable, Worth};
 
-pub(crate) fn next(out: &impl Print, n: u64) -> io::Result<()> {
+pub(crate) fn number(out: &impl Print, n: impl Display + Copy) -> io::Result<()> {
     print!(out; " {n}")
 }
 
-pub(crate) fn byte(out: &impl Print, n: u8) -> io::Result<()> {
-    next(out, n as u64)
-}
-
-pub(crate) fn word(out: &impl Print, n: u32) -> io::Result<()> {
-    next(out, n as u64)
-}
-
-pub(crate) fn four(out: &impl Print, xs: [u8; 4]) -> io::Result<()> {
-    byte(out, xs[0])?;
-    byte(out, xs[1])?;
-    byte(out, xs[2])?;
-    byte(out, xs[3])
-}
-
-pub(crate) fn six_bytes(out: &impl Print, xs: [u8; 6]) -> io::Result<()> {
-    byte(out, xs[0])?;
-    byte(out, xs[1])?;
-    byte(out, xs[2])?;
-    byte(out, xs[3])?;
-    byte(out, xs[4])?;
-    byte(out, xs[5])
-}
-
-pub(crate) fn six(out: &impl Print, xs: [u64; 6]) -> io::Result<()> {
-    next(out, xs[0])?;
-    next(out, xs[1])?;
-    next(out, xs[2])?;
-    next(out, xs[3])?;
-    next(out, xs[4])?;
-    next(out, xs[5])
-}
-
-// A number for each set.
-pub(crate) fn sets(out: &impl Print, xs: &[u64; 64]) -> io::Result<()> {
+pub(crate) fn numbers<T: Display>(out: &impl Print, xs: &[T]) -> io::Result<()> {
     for x in xs {
-        next(out, *x)?;
+        print!(out; " {x}")?;
     }
     Ok(())
 }
 
 pub(crate) fn worth(out: &impl Print, found: Worth) -> io::Result<()> {
-    next(out, found.number as u64)?;
-    next(out, found.value as u64)
+    number(out, found.number)?;
+    number(out, found.value)
 }
 
-pub(crate) fn table(out: &impl Print, found: SigmaTable) -> io::Result<()> {
-    let sigma = found.sigma;
-    next(out, found.number as u64)?;
-    next(out, found.value)?;
-    sets(out, &sigma)
+pub(crate) fn table(out: &impl Print, found: &SigmaTable) -> io::Result<()> {
+    number(out, found.number)?;
+    number(out, found.value)?;
+    numbers(out, &found.sigma)
 }
 
 pub(crate) fn answer(out: &impl Print, found: Prices) -> io::Result<()> {
-    let prices = found.prices;
-    next(out, found.number as u64)?;
-    next(out, found.w as u64)?;
-    next(out, found.q as u64)?;
-    six(out, prices)
+    number(out, found.number)?;
+    number(out, found.w)?;
+    number(out, found.q)?;
+    numbers(out, &found.prices)
+}
+
+// The number of an answer: 0, or that of the question that is answered no.
+pub(crate) fn code<T>(answer: &Result<T, Question>) -> u32 {
+    match answer {
+        Ok(_) => 0,
+        Err(question) => u32::from(*question),
+    }
 }

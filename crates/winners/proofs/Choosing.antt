@@ -1,59 +1,116 @@
--- The step of the test of a list of bids: one bid more follows or it does not; the sum of amounts and the list of clients for one bid
--- more. Cited by the proofs of src/choice.rt. Assumes nothing.
-use mathlib.Core.Path.{◌≡◌, sym, ◌∙◌}
+-- The test of a list of bids: its first bid as the code tests it, and what that bid leaves; and the sum of the bids' amounts. What four
+-- kinds ask for and leave is cut to the book's own. Cited by the proofs of src/choice.rt. Assumes nothing.
+use mathlib.Core.Path.{◌≡◌, refl, sym, ap, ◌∙◌}
 use mathlib.Core.Bool.{Bool, true, false, ◌&&◌, and_assoc, and-eq-true_iff}
 use mathlib.Core.List.{List, [], ◌∷◌}
-use Prim.Native.Nat.{ℕ, ◌+◌, ◌≤◌}
-use native.Mathlib.Nat.{add_assoc, add-zero}
-use borrow.Author.Tests.{leb-true}
+use Prim.Native.Nat.{ℕ, zero, suc, ◌+◌, ◌≤◌, ◌<◌}
+use native.Mathlib.Decide.{dec_lt}
+use native.Mathlib.Omega.{arith}
+use borrow.Author.Tests.{ltb-true, le-leb}
 use lib.Dec.{leb, ltb}
-use lib.ListN.{length}
-use Rattle.book.specs.Book.{Book, bid_at, client_of, clients, standing}
+use lib.ListN.{length, get_or, take, get_or-eq_default}
+use lib.Seq.{ext_get_or, get_or-take, length-take-le}
+use Rattle.std.proofs.Common.{sum_by}
+use Rattle.std.proofs.lemmas.List.Sums.{sum_by-cons}
 use Rattle.market.specs.Market.{fits, less}
-use Rattle.market.specs.Combination.{rising_from}
-use Rattle.market.specs.Combination.{worth}
+use Rattle.market.specs.Combination.{rising_from, worth}
+use Rattle.market.proofs.Hours.{fits_at, fits_if, less_at, less_length}
+use Rattle.book.specs.Lists.{row}
+use Rattle.book.specs.Book.{Book, Bid, no_bid, bid_at, client_of, clients, standing}
+use Rattle.book.specs.Sound.{Shaped}
+use Rattle.winners.specs.ByKind.{by_kind}
 use Rattle.winners.specs.Combinations.{market}
-use Rattle.winners.specs.Following.{follows}
+use Rattle.winners.proofs.Books.{standing_client}
+use Rattle.winners.proofs.KindEntries.{kinds_at}
 
-module _ (b : Book) (c : ℕ) (ls : List ℕ) (i : ℕ) (is : List ℕ) where
-  -- the test of the list is the test of its first bid and of the rest
-  pub follows_first : rising_from (market b) (clients b) c ls (i ∷ is)
-      ≡ (follows b c ls i && rising_from (market b) (clients b) (client_of b i) (less ls (bid_at b i).hours) is)
-  unfolding follows rising_from market
-  follows_first =
-      sym (and_assoc
-      ((leb 1 i && leb i (length b.bids)) && ((ltb c (client_of b i) && leb (client_of b i) (clients b)) && standing b (client_of b i)))
-      (fits (bid_at b i).hours ls)
-      (rising_from (market b) (clients b) (client_of b i) (less ls (bid_at b i).hours) is))
-
-  -- what follows is one of the book's bids
-  pub follows_number : follows b c ls i ≡ true → (1 ≤ i) × (i ≤ length b.bids)
-  unfolding follows
-  follows_number t =
-      let p = (and-eq-true_iff _ (fits (bid_at b i).hours ls)).0 t in
-      let q = (and-eq-true_iff (leb 1 i && leb i (length b.bids)) _).0 p.0 in
-      let r = (and-eq-true_iff (leb 1 i) (leb i (length b.bids))).0 q.0 in
-      (leb-true 1 i r.0, leb-true i _ r.1)
-
-  -- after a bid that may follow, what the rest makes stays what the whole makes; one that may not is the answer
-  pub choice_kept : (z : Bool) (owner : ℕ) (ls' : List ℕ) → follows b c ls i ≡ true → owner ≡ client_of b i
-      → ls' ≡ less ls (bid_at b i).hours → rising_from (market b) (clients b) c ls (i ∷ is) ≡ z
-      → rising_from (market b) (clients b) owner ls' is ≡ z
-  choice_kept z owner ls' t o h q = rw (o, h) (rw t at (sym follows_first ∙ q))
-
-  pub choice_ended : (z : Bool) → follows b c ls i ≡ false → rising_from (market b) (clients b) c ls (i ∷ is) ≡ z → false ≡ z
-  choice_ended z t q = rw t at (sym follows_first ∙ q)
-
--- amounts of the bids left
-pub worth_next : (wt : ℕ → ℕ) (x : ℕ) (xs ys : List ℕ) (s t z : ℕ) → xs ≡ x ∷ ys → t ≡ wt x → s + worth wt xs ≡ z
-    → (s + t) + worth wt ys ≡ z
+-- the weights of the bids, as a sum
+pub worth_sum : (wt : ℕ → ℕ) (is : List ℕ) → sum_by wt is ≡ worth wt is
 unfolding worth
-worth_next wt x xs ys s t z e h q = rw (h, add_assoc) (rw e at q)
+worth_sum wt [] = refl
+worth_sum wt (i ∷ is) = sum_by-cons wt i is ∙ ap (λ (x : ℕ). wt i + x) (worth_sum wt is)
 
-pub worth_done : (wt : ℕ → ℕ) (xs : List ℕ) (s z : ℕ) → xs ≡ [] → s + worth wt xs ≡ z → s ≡ z
-unfolding worth
-worth_done wt xs s z e q = sym (add-zero s) ∙ (rw e at q)
+-- two tests that follow from each other
+same_test : (a b : Bool) → (a ≡ true → b ≡ true) → (b ≡ true → a ≡ true) → a ≡ b
+same_test true b f g = sym (f refl)
+same_test false true f g = g refl
+same_test false false f g = refl
 
-pub choice_done : (b : Book) (c : ℕ) (ls xs : List ℕ) (z : Bool) → xs ≡ [] → rising_from (market b) (clients b) c ls xs ≡ z → true ≡ z
-unfolding rising_from
-choice_done b c ls xs z e q = rw e at q
+-- HOURS of at most k kinds against four of which the first k count
+by_kind_at : (xs : List ℕ) (j : ℕ) → j < 4 → get_or (by_kind xs) j 0 ≡ get_or xs j 0
+unfolding row
+by_kind_at xs = kinds_at (λ j. get_or xs j 0) _ _ _ _ refl refl refl refl
+
+module _ (k : ℕ) (few : k ≤ 4) (hs left : List ℕ) (short : length hs ≤ k) (long : length left ≡ 4) where
+  cut : length (take k left) ≡ k
+  cut = length-take-le k left (omega arith)
+
+  past : (j : ℕ) → k ≤ j → get_or hs j 0 ≡ 0
+  past j l = get_or-eq_default hs 0 {n = j} (omega arith)
+
+  fits_cut : fits (by_kind hs) left ≡ fits hs (take k left)
+  unfolding row
+  fits_cut = same_test _ _
+      (λ f. fits_if hs (take k left) (omega (arith, cut)) (λ j l. omega (
+        arith,
+        cut,
+        fits_at (by_kind hs) left f j,
+        by_kind_at hs j (omega (arith, cut)),
+        get_or-take k left j 0 (omega (arith, cut)),
+      )))
+      (λ f. fits_if (by_kind hs) left (omega arith) (λ j l. elim (dec_lt j k) [
+        | yes m ↦ omega (arith, fits_at hs (take k left) f j, by_kind_at hs j (omega arith), get_or-take k left j 0 m)
+        | no m ↦ omega (arith, by_kind_at hs j (omega arith), past j (omega arith))
+      ]))
+
+  less_cut : take k (less left (by_kind hs)) ≡ less (take k left) hs
+  less_cut =
+      let whole = length-take-le k (less left (by_kind hs)) (omega (arith, less_length left (by_kind hs))) in
+      ext_get_or 0 _ _ (whole ∙ sym (less_length (take k left) hs ∙ cut)) (λ j l. let inside : j < k = omega (arith, whole) in
+      omega (
+        arith,
+        get_or-take k (less left (by_kind hs)) j 0 inside,
+        less_at left (by_kind hs) j,
+        by_kind_at hs j (omega arith),
+        less_at (take k left) hs j,
+        get_or-take k left j 0 inside,
+      ))
+
+-- THE FIRST BID
+module _ (b : Book) where
+  -- who has a bid has one of the book's
+  bid_there : (i : ℕ) → 1 ≤ client_of b i → (1 ≤ i) × (i ≤ length b.bids)
+  unfolding client_of bid_at no_bid
+  bid_there zero l = absurd (omega arith)
+  bid_there (suc i) l = elim (dec_lt i (length b.bids)) [
+    | yes m ↦ (omega arith, omega arith)
+    | no m ↦ absurd (omega (arith, ap (λ (x : Bid). x.client) (get_or-eq_default b.bids no_bid {n = i} (omega arith))))
+  ]
+
+  -- a client after another that stands is one of the book's, and so is the bid
+  named : (c i : ℕ) → (ltb c (client_of b i) && standing b (client_of b i))
+      ≡ ((leb 1 i && leb i (length b.bids)) && ((ltb c (client_of b i) && leb (client_of b i) (clients b)) && standing b (client_of b i)))
+  named c i = same_test _ _
+      (λ t. let (after, stands) = (and-eq-true_iff (ltb c (client_of b i)) _).0 t in
+      let (low, high) = bid_there i (omega (arith, ltb-true c (client_of b i) after)) in
+      let last = (standing_client b (client_of b i) stands).1 in
+      rw (le-leb 1 i low, le-leb i (length b.bids) high, after, le-leb (client_of b i) (clients b) last, stands) refl)
+      (λ t. let rest = ((and-eq-true_iff (leb 1 i && leb i (length b.bids)) _).0 t).1 in
+      let (known, stands) = (and-eq-true_iff (ltb c (client_of b i) && leb (client_of b i) (clients b)) _).0 rest in
+      rw (((and-eq-true_iff (ltb c (client_of b i)) _).0 known).0, stands) refl)
+
+  module _ (shaped : Shaped b) (few : length b.kinds ≤ 4) (c : ℕ) (left : List ℕ) (long : length left ≡ 4) (i : ℕ) (is : List ℕ) where
+    abbrev hours : List ℕ
+    hours = by_kind (bid_at b i).hours
+
+    -- the test of the list is the test of its first bid, and that of the rest
+    pub choice_next : rising_from (market b) (clients b) c (take (length b.kinds) left) (i ∷ is)
+        ≡ (((ltb c (client_of b i) && standing b (client_of b i)) && fits hours left)
+        && rising_from (market b) (clients b) (client_of b i) (take (length b.kinds) (less left hours)) is)
+    unfolding rising_from market
+    choice_next =
+        let k = length b.kinds in
+        rw (less_cut k few (bid_at b i).hours left (shaped i) long, fits_cut k few (bid_at b i).hours left (shaped i) long, named c i)
+        (sym (and_assoc
+        ((leb 1 i && leb i (length b.bids)) && ((ltb c (client_of b i) && leb (client_of b i) (clients b)) && standing b (client_of b i)))
+        (fits (bid_at b i).hours (take k left))
+        (rising_from (market b) (clients b) (client_of b i) (less (take k left) (bid_at b i).hours) is)))

@@ -1,7 +1,7 @@
 -- Sets of clients as numbers: the first client and the others, the set without one of its clients, and clients that add nothing left out.
 -- Cited by the proofs of src/client_sets.rt, src/full.rt and src/pass.rt. Assumes nothing.
 use mathlib.Core.Path.{◌≡◌, refl, sym, ap, ap₂, fun_ext, ◌∙◌}
-use mathlib.Core.Bool.{Bool, true, false, ◌&&◌, false≢true, and-eq-true_iff}
+use mathlib.Core.Bool.{Bool, true, false, cond, ◌&&◌, false≢true, and-eq-true_iff}
 use mathlib.Core.List.{List, [], ◌∷◌}
 use mathlib.Core.Logic.{◌≢◌, ⊎_elim}
 use Prim.Native.Nat.{ℕ, zero, suc, ◌+◌, ◌-◌, ◌/◌, ◌%◌, ◌^◌, ◌≤◌, ◌<◌, min}
@@ -10,17 +10,17 @@ use native.Mathlib.Decide.{ℕ_discrete, dec_lt}
 use native.Mathlib.Omega.{arith}
 use borrow.Author.Tests.{eqb-true, eqb-false, eq-eqb, ne_eqb}
 use lib.Bits.{bit_and, and_shr, and_step, and_self, and_le_l}
-use lib.Count.{under, count_trailing_zeros}
+use lib.Count.{under, count_trailing_zeros, ones, ones_step}
 use lib.Dec.{eqb}
 use lib.ListN.{length}
 use lib.Pow.{pow_pos}
 use Rattle.sets.specs.Sets.{has}
-use Rattle.sets.proofs.Members.{and_mask, has_low, has_half, has_zero, has_above, set_ext}
+use Rattle.sets.proofs.Members.{has_low, has_half, has_zero, has_above, set_ext}
 use Rattle.market.specs.Market.{Market, at}
 use Rattle.market.specs.Greatest.{choose}
 use Rattle.market.specs.Members.{reach, members, without, RowOf, choose_in}
 use Rattle.market.proofs.Bools.{either}
-use Rattle.market.proofs.Members.{members_at, members_without, members_first, Drops}
+use Rattle.market.proofs.Members.{members_same, members_at, members_without, members_first, Drops}
 use Rattle.market.proofs.ReachKept.{reach_kept}
 use Rattle.market.proofs.RowOf.{row_chooses}
 use Rattle.winners.specs.ClientSets.{clients_in, First, Within}
@@ -98,6 +98,34 @@ pub clients_none : clients_in 0 ≡ []
 unfolding members
 clients_none = rw (has_zero 0, has_zero 1, has_zero 2, has_zero 3, has_zero 4, has_zero 5)
 
+-- HOW MANY CLIENTS
+-- a client more, or not, by a lowest bit
+one_more : (b : Bool) (c : ℕ) (rest : List ℕ) → length (cond b (c ∷ rest) rest) ≡ cond b 1 0 + length rest
+one_more true c rest = omega arith
+one_more false c rest = omega arith
+
+low_bit : (s : ℕ) → cond (eqb (s % 2) 1) 1 0 ≡ s % 2
+low_bit s = elim (ℕ_discrete (s % 2) 1) [
+  | yes e ↦ rw (eq-eqb (s % 2) 1 e) (sym e)
+  | no n ↦ rw (ne_eqb (s % 2) 1 n) (omega arith)
+]
+
+-- they are as many as the bits that are set
+members_count : (k c s : ℕ) → s < 2 ^ k → length (members (λ x. has s (x - c)) k c) ≡ ones s
+unfolding members ones
+members_count zero c zero l = refl
+members_count zero c (suc s) l = absurd (omega arith)
+members_count (suc k) c s l =
+    let here : c - c ≡ 0 = omega arith in
+    let rest : members (λ x. has s (x - c)) k (suc c) ≡ members (λ x. has (s / 2) (x - suc c)) k (suc c)
+    = members_same _ _ k (suc c) (λ y a b. let next : y - c ≡ suc (y - suc c) = omega arith in rw next (has_half s (y - suc c))) in
+    let first : cond (has s (c - c)) 1 0 ≡ s % 2 = rw (here, has_low s) (low_bit s) in
+    let others = members_count k (suc c) (s / 2) (omega (arith, pow-suc 2 k)) in
+    omega (arith, one_more (has s (c - c)) c (members (λ x. has s (x - c)) k (suc c)), first, ap length rest, others, ones_step s)
+
+pub clients_count : (s : ℕ) → s < 64 → ones s ≡ length (clients_in s)
+clients_count s l = sym (members_count 6 1 s (omega arith))
+
 -- the client at a place has a bit, and without it the set is that without the bit
 pub clients_without : (s d : ℕ) → d < length (clients_in s)
     → (j : ℕ) × (j < 6) × (has s j ≡ true) × (without d (clients_in s) ≡ clients_in (s - 2 ^ j))
@@ -112,15 +140,6 @@ pub reach_fewer : (m : Market) (wt : ℕ → ℕ) (s j : ℕ) (ls : List ℕ) �
     → reach m wt (clients_in (s - 2 ^ j)) ls ≤ reach m wt (clients_in s) ls
 reach_fewer m wt s j ls h =
     reach_kept m wt (λ c. has s (c - 1)) (λ c. has (s - 2 ^ j) (c - 1)) 6 1 ls (λ y a b t. fewer_within s j h (y - 1) t)
-
--- a bit that is shifted down and masked
-pub has_on : (s j : ℕ) → bit_and (s / 2 ^ j) 1 ≡ 1 → has s j ≡ true
-unfolding has
-has_on s j e = eq-eqb (s / 2 ^ j % 2) 1 (sym (and_mask s j) ∙ e)
-
-pub has_off : (s j : ℕ) → bit_and (s / 2 ^ j) 1 ≢ 1 → has s j ≡ false
-unfolding has
-has_off s j n = ne_eqb (s / 2 ^ j % 2) 1 (λ e. n (and_mask s j ∙ e))
 
 -- CLIENTS WITHOUT BIDS
 has_and : (a b j : ℕ) → has (bit_and a b) j ≡ (has a j && has b j)
@@ -177,10 +196,6 @@ clients_few keep (suc k) c = ⊎_elim
     (λ (y : keep c ≡ true). rw y (omega (arith, clients_few keep k (suc c))))
     (λ (n : keep c ≡ false). rw n (omega (arith, clients_few keep k (suc c))))
     (either (keep c))
-
--- with the first client one more than the others
-pub clients_one : (s c : ℕ) → First s c → length (clients_in s) ≡ length (clients_in (s - 2 ^ (c - 1))) + 1
-clients_one s c f = omega (arith, ap length (clients_first s c f))
 
 -- THE LOWEST BIT
 record Lowest (s j : ℕ) : Type 0 where

@@ -1,9 +1,15 @@
 -- What the contracts promise of the book of the worked call A, computed: its greatest value, 110; σ of every set of its clients; and its
 -- bids, weighed and refused. With client 3 withdrawn it is the book of call C. Nothing cites it. Assumes nothing.
-use mathlib.Core.Path.{◌≡◌}
+use mathlib.Core.Path.{◌≡◌, ap}
 use mathlib.Core.List.{List, [], ◌∷◌, ◌++◌}
 use Prim.Native.Nat.{ℕ}
+use native.Mathlib.Omega.{arith}
 use lib.ListN.{replicate}
+use Rattle.std.specs.Prelude.{Result, Ok, Err, IfOk}
+use Rattle.questions.specs.Numbers.{number_of, number_in, OneNumberEach}
+use Rattle.questions.specs.declared.Question.{Question}
+use Rattle.questions.specs.declared.Question.TheVariants.{Combination as CombinationAsked, Value as ValueAsked}
+use Rattle.questions.proofs.Numbers.{one_number_each, number_range}
 use Rattle.sets.specs.Sets.{has}
 use Rattle.sets.specs.Tables.{tabulate}
 use Rattle.market.specs.Market.{fits, less}
@@ -16,7 +22,7 @@ use Rattle.winners.specs.Surplus.{any, picked, surplus}
 use Rattle.winners.specs.Value.{value_refusal, value_of}
 use Rattle.winners.specs.Worth.{WorthIs}
 use Rattle.winners.specs.Surpluses.{rising_to, list_good, list_refusal, surplus_table, SurplusesAre}
-use Rattle.winners.specs.Weighed.{choice_good, weigh_refusal, owners_of, six, WeighedIs}
+use Rattle.winners.specs.Weighed.{choice_good, weigh_refusal, owners_of, six, WinnersWeighed, WeighedIs}
 use Rattle.winners.specs.declared.weighing.Weighed.{Weighed}
 
 -- what an answer computes with
@@ -57,40 +63,46 @@ module _ (number value : ℕ) where
 
   -- σ OF EVERY SET of all clients; of a list that does not rise there is none
   module _ (sigma : List ℕ) where
-    all_clients : SurplusesAre 0 (book 0) (1 ∷ two 2 3) 3 number value sigma
+    all_clients : SurplusesAre 0 (book 0) (1 ∷ 2 ∷ 3 ∷ []) number value sigma
         → (number ≡ 0) × (value ≡ 110) × (sigma ≡ (0 ∷ 40 ∷ 40 ∷ 40 ∷ 0 ∷ 60 ∷ 50 ∷ 110 ∷ []) ++ replicate 56 0)
     unfolding computed
     all_clients k = (k.numbered, k.valued, k.tabled)
 
-    not_rising : SurplusesAre 0 (book 0) (two 2 2) 2 number value sigma → (number ≡ 16) × (value ≡ 0) × (sigma ≡ replicate 64 0)
+    not_rising : SurplusesAre 0 (book 0) (2 ∷ 2 ∷ []) number value sigma → (number ≡ 16) × (value ≡ 0) × (sigma ≡ replicate 64 0)
     unfolding computed
     not_rising k = (k.numbered, k.valued, k.tabled)
 
--- BIDS WEIGHED: every field
-abbrev nothing_but : (number : ℕ) → Weighed
-nothing_but n = record { number = n; value = 0; clients = replicate 6 0; sigma = replicate 64 0 }
-
+-- BIDS WEIGHED: every field, and the question that is answered no
 abbrev found : (first second both : ℕ) → Weighed
-found first second both = record { number = 0; value = 110; clients = two 1 2; sigma = 0 ∷ first ∷ second ∷ both ∷ replicate 60 0 }
+found first second both = record { value = 110; clients = two 1 2; sigma = 0 ∷ first ∷ second ∷ both ∷ replicate 60 0 }
 
-module _ (r : Weighed) where
-  whole : (s : Weighed) → r.number ≡ s.number → r.value ≡ s.value → r.clients ≡ s.clients → r.sigma ≡ s.sigma → r ≡ s
-  whole s number value clients sigma = λ i. record { number = number i; value = value i; clients = clients i; sigma = sigma i }
+refused : (answer : Result Weighed Question) (q : Question) → number_in answer ≡ number_of q → answer ≡ Err q
+unfolding OneNumberEach
+refused (Ok a) q e = absurd (omega (arith, e, number_range q))
+refused (Err p) q e = ap Err (one_number_each p q e)
 
-  winners_a : WeighedIs 0 (book 0) (two 2 3) 2 r → r ≡ found 40 40 40
+module _ (b : Book) (bids : List ℕ) (s : Weighed) where
+  whole : (answer : Result Weighed Question) → number_in answer ≡ 0
+      → ((a : Weighed) → WinnersWeighed b bids a → (a.value ≡ s.value) × (a.clients ≡ s.clients) × (a.sigma ≡ s.sigma))
+      → IfOk answer (WinnersWeighed b bids) → answer ≡ Ok s
+  whole (Ok a) e same k = let (v, c, t) = same a k in ap Ok (λ i. record { value = v i; clients = c i; sigma = t i })
+  whole (Err q) e same k = absurd (omega (arith, e, number_range q))
+
+module _ (answer : Result Weighed Question) where
+  winners_a : WeighedIs 0 (book 0) (2 ∷ 3 ∷ []) answer → answer ≡ Ok (found 40 40 40)
   unfolding computed
-  winners_a k = whole (found 40 40 40) k.numbered k.valued k.owned k.tabled
+  winners_a k = whole (book 0) (2 ∷ 3 ∷ []) (found 40 40 40) answer k.numbered (λ a w. (w.valued, w.owned, w.tabled)) k.weighed
 
   -- client 3 is withdrawn
-  winners_c : WeighedIs 0 (book 1) (two 2 3) 2 r → r ≡ found 60 50 110
+  winners_c : WeighedIs 0 (book 1) (2 ∷ 3 ∷ []) answer → answer ≡ Ok (found 60 50 110)
   unfolding computed
-  winners_c k = whole (found 60 50 110) k.numbered k.valued k.owned k.tabled
+  winners_c k = whole (book 1) (2 ∷ 3 ∷ []) (found 60 50 110) answer k.numbered (λ a w. (w.valued, w.owned, w.tabled)) k.weighed
 
   -- client 3 alone, as in call H, and withdrawn
-  third_alone : WeighedIs 0 (book 0) (two 1 0) 1 r → r ≡ nothing_but 9
+  third_alone : WeighedIs 0 (book 0) (1 ∷ []) answer → answer ≡ Err ValueAsked
   unfolding computed
-  third_alone k = whole (nothing_but 9) k.numbered k.valued k.owned k.tabled
+  third_alone k = refused answer ValueAsked k.numbered
 
-  third_withdrawn : WeighedIs 0 (book 1) (two 1 0) 1 r → r ≡ nothing_but 8
+  third_withdrawn : WeighedIs 0 (book 1) (1 ∷ []) answer → answer ≡ Err CombinationAsked
   unfolding computed
-  third_withdrawn k = whole (nothing_but 8) k.numbered k.valued k.owned k.tabled
+  third_withdrawn k = refused answer CombinationAsked k.numbered

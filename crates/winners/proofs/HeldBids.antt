@@ -1,7 +1,7 @@
 -- The bids of a sound book that is a value, by their places: whose they are, what they weigh, and their hours, also as numbers in lanes;
 -- and its supply as such a number. Cited by the proofs of src/. Assumes nothing.
 use mathlib.Core.Path.{◌≡◌, refl, sym, ap, ap₂, ◌∙◌}
-use mathlib.Core.Bool.{Bool, ◌&&◌, not, cond}
+use mathlib.Core.Bool.{Bool, ◌&&◌, not}
 use mathlib.Core.List.{List, [], ◌∷◌}
 use Prim.Native.Nat.{ℕ, zero, suc, ◌+◌, ◌*◌, ◌-◌, ◌≤◌, ◌<◌}
 use native.Mathlib.Nat.{le_of_suc-le-suc, min-eq_left}
@@ -10,7 +10,6 @@ use native.Mathlib.Omega.{arith}
 use lib.Bits.{bit_and}
 use lib.Dec.{eqb}
 use lib.ListN.{length, get_or, take, get_or-eq_default}
-use lib.Seq.{ext_get_or, get_or-take, length-take-le}
 use Rattle.sets.specs.Sets.{has, set_of}
 use Rattle.sets.proofs.Members.{has_set_of}
 use Rattle.book.specs.Lists.{within, row}
@@ -18,7 +17,7 @@ use Rattle.book.specs.Book.{Book, Bid, bid_at, client_of, clients, standing, sup
 use Rattle.book.specs.Value.{bid_held, book_of, sound_number}
 use Rattle.book.specs.declared.value.Book.{Book as Arrays}
 use Rattle.book.proofs.RowLaws.{row_length, row_at, row_past}
-use Rattle.book.proofs.Held.{held_kinds, held_clients, held_bids, held_bid, held_supply, counts_held, sound_held, standing_by_number}
+use Rattle.book.proofs.Held.{held_kinds, held_clients, held_bids, held_bid, counts_held, sound_held, standing_by_number}
 use Rattle.market.specs.Market.{fits}
 use Rattle.winners.specs.Combinations.{market, amount_of}
 use Rattle.winners.specs.ByKind.{by_kind}
@@ -89,14 +88,6 @@ module _ (v : Arrays) (h : sound_number v ≡ 0) where
   pub bids_are : length (book_of v).bids ≡ v.m
   bids_are = held_bids v ∙ min-eq_left (counts_held v h).m_high
 
-  -- the supply, as the array has it
-  pub supply_held : length v.supply ≡ 4 → take v.k v.supply ≡ supplies (book_of v)
-  supply_held long =
-      let few = (counts_held v h).k_high in
-      let own = length-take-le v.k v.supply (omega (arith, few)) in
-      ext_get_or 0 _ _ (own ∙ sym (supplies_count (book_of v) ∙ kinds_are))
-      (λ j l. get_or-take v.k v.supply j 0 (omega (arith, own)) ∙ sym (held_supply v j (omega (arith, own, few))))
-
   module _ (i : ℕ) (l : i < v.m) where
     bid_is : bid_at (book_of v) (i + 1) ≡ bid_held v.k v.client v.hours v.amount i
     bid_is =
@@ -145,14 +136,14 @@ module _ (v : Arrays) (h : sound_number v ≡ 0) where
         packs = refl;
       }
 
-      -- whose row it goes into, by the clients kept, its hours and the supply
-      pub row_is : (d kept u a own t : ℕ) → ((c : ℕ) → 1 ≤ c → c ≤ 6 → has kept (c - 1) ≡ (standing (book_of v) c && not (discarded d c)))
+      -- whether it may be taken, by the clients kept, its hours and the supply
+      pub may_is : (d kept u a own : ℕ) (t : Bool)
+          → ((c : ℕ) → 1 ≤ c → c ≤ 6 → has kept (c - 1) ≡ (standing (book_of v) c && not (discarded d c)))
           → Left (length (book_of v).kinds) (supplies (book_of v)) u → a ≡ packed (bid_at (book_of v) (i + 1)).hours
           → own ≡ client_of (book_of v) (i + 1) → 1 ≤ own → own ≤ 6
-          → t ≡ cond (has kept (own - 1) && eqb (bit_and (u + a) 72058693566333184) 0) own 0
-          → t ≡ cond ((searched (book_of v) d).may (i + 1)) (client_of (book_of v) (i + 1)) 0
+          → t ≡ (has kept (own - 1) && eqb (bit_and (u + a) 72058693566333184) 0) → t ≡ (searched (book_of v) d).may (i + 1)
       unfolding market without
-      row_is d kept u a own t keeps left ea eo low high et =
+      may_is d kept u a own t keeps left ea eo low high et =
           let b = book_of v in
           let asked = asked_is in
           let count = supplies_count b in
@@ -162,7 +153,7 @@ module _ (v : Arrays) (h : sound_number v ≡ 0) where
           = rw sum (fit_says _ _ (omega (arith, asked.kinds, count)) (omega (arith, count, few)) asked.bytes left.bytes) in
           let on : has kept (own - 1) ≡ (standing b (client_of b (i + 1)) && not (discarded d (client_of b (i + 1))))
           = keeps own low high ∙ ap (λ (c : ℕ). standing b c && not (discarded d c)) eo in
-          et ∙ ap₂ (λ (y : Bool) (x : ℕ). cond y x 0) (ap₂ (λ (x y : Bool). x && y) on fit) eo
+          et ∙ ap₂ (λ (x y : Bool). x && y) on fit
 
   -- the clients kept, by the caps
   pub kept_is : (d kept : ℕ) → kept ≡ set_of 6 (λ j. (within 1 (1 + j) v.n && not (eqb (get_or v.caps j 0) 0)) && not (has d j))

@@ -1,5 +1,5 @@
 -- What the contracts say in words leaves no other answer than what they say by value: whatever is the greatest value in words is the
--- recursion's, and whatever is σ in words is σ; bids that are weighed with number 0 are a combination by rising client, and at most six
+-- recursion's, and whatever is σ in words is σ; bids that are weighed are a combination by rising client, and at most six
 -- that are one pass question 8; and all clients of a sound book are a list that is not refused. Nothing cites it. Assumes nothing.
 use mathlib.Core.Path.{◌≡◌, refl, sym, ap, ◌∙◌}
 use mathlib.Core.Bool.{Bool, true, false, ◌&&◌, cond, false≢true, and-eq-true_iff}
@@ -8,7 +8,9 @@ use Prim.Native.Nat.{ℕ, ◌^◌, ◌≤◌, ◌<◌}
 use native.Mathlib.Omega.{arith}
 use borrow.Author.Tests.{le-leb, eq-eqb}
 use lib.Dec.{leb, eqb}
-use lib.ListN.{get_or, take}
+use lib.ListN.{length, get_or, take}
+use Rattle.std.specs.Prelude.{Result, Ok}
+use Rattle.questions.specs.declared.Question.{Question}
 use Rattle.book.specs.Lists.{all_to}
 use Rattle.book.specs.Book.{Book, clients}
 use Rattle.book.specs.Layout.{book_in}
@@ -36,7 +38,7 @@ surplus_only_one b shaped cs L σ s =
       greatest_all b,
     )
 
--- weighed with number 0, bids have passed question 8
+-- weighed, bids have passed question 8
 question_8 : (sound eight nine : Bool) (n : ℕ) → (n ≡ 0 → sound ≡ true) → cond sound (cond eight (cond nine 0 9) 8) n ≡ 0 → eight ≡ true
 question_8 true true nine n h e = refl
 question_8 true false nine n h e = absurd (omega arith)
@@ -47,32 +49,33 @@ module _ (r : ℕ) (b : Book) (shaped : Shaped b) where
   unfolding greatest
   worth_in_words d v k = greatest_only_one b shaped (discarded d) v (k.greatest refl)
 
-  surpluses_in_words : (cs : List ℕ) (w v : ℕ) (sigma : List ℕ) → SurplusesAre r b cs w 0 v sigma
-      → (L : ℕ) → L < 2 ^ w → get_or sigma L 0 ≡ surplus b (take w cs) L
-  surpluses_in_words cs w v sigma k L l = surplus_only_one b shaped (take w cs) L (get_or sigma L 0) (k.surpluses refl L l)
+  surpluses_in_words : (cs : List ℕ) (v : ℕ) (sigma : List ℕ) → SurplusesAre r b cs 0 v sigma
+      → (L : ℕ) → L < 2 ^ length cs → get_or sigma L 0 ≡ surplus b cs L
+  surpluses_in_words cs v sigma k L l = surplus_only_one b shaped cs L (get_or sigma L 0) (k.surpluses refl L l)
 
-  module _ (is : List ℕ) (w : ℕ) (a : Weighed) (k : WeighedIs r b is w a) (z : a.number ≡ 0) where
+  module _ (is : List ℕ) (a : Weighed) (k : WeighedIs r b is (Ok a)) where
     weighed_value : a.value ≡ greatest b 0
-    weighed_value = greatest_only_one b shaped (λ c. false) a.value (k.greatest z) ∙ sym (greatest_all b)
+    weighed_value = greatest_only_one b shaped (λ c. false) a.value k.weighed.greatest ∙ sym (greatest_all b)
 
-    weighed_surpluses : (L : ℕ) → L < 2 ^ w → get_or a.sigma L 0 ≡ surplus b (owners_of b is w) L
-    weighed_surpluses L l = surplus_only_one b shaped (owners_of b is w) L (get_or a.sigma L 0) (k.surpluses z L l)
+    weighed_surpluses : (L : ℕ) → L < 2 ^ length is → get_or a.sigma L 0 ≡ surplus b (owners_of b is) L
+    weighed_surpluses L l = surplus_only_one b shaped (owners_of b is) L (get_or a.sigma L 0) (k.weighed.surpluses L l)
 
-    weighed_combination : Combination b (take w is) × Rising b (take w is)
+    weighed_combination : Combination b is × Rising b is
     unfolding weigh_refusal choice_good CombinationsAgree
     weighed_combination =
-        let best = eqb (worth b (take w is)) (greatest b 0) in
-        let good = question_8 (eqb r 0) (choice_good b is w) best r (eq-eqb r 0) (sym k.numbered ∙ z) in
-        k.agree.0 ((and-eq-true_iff (leb w 6) _).0 good).1
+        let best = eqb (worth b is) (greatest b 0) in
+        let good = question_8 (eqb r 0) (choice_good b is) best r (eq-eqb r 0) (sym k.numbered) in
+        k.agree.0 ((and-eq-true_iff (leb (length is) 6) _).0 good).1
 
-  combination_chosen : (is : List ℕ) (w : ℕ) (a : Weighed) → WeighedIs r b is w a → w ≤ 6
-      → Combination b (take w is) → Rising b (take w is) → choice_good b is w ≡ true
+  combination_chosen : (is : List ℕ) (answer : Result Weighed Question) → WeighedIs r b is answer → length is ≤ 6
+      → Combination b is → Rising b is → choice_good b is ≡ true
   unfolding choice_good CombinationsAgree
-  combination_chosen is w a k few c rising = (and-eq-true_iff (leb w 6) _).1 (le-leb w 6 few, k.agree.1 (c, rising))
+  combination_chosen is answer k few c rising =
+      (and-eq-true_iff (leb (length is) 6) _).1 (le-leb (length is) 6 few, k.agree.1 (c, rising))
 
 -- the first n of six clients rise to n: one test, computed
 abbrev rises : (n : ℕ) → Bool
-rises n = leb n 6 && rising_to n 0 (take n (1 ∷ 2 ∷ 3 ∷ 4 ∷ 5 ∷ 6 ∷ []))
+rises n = let all = take n (1 ∷ 2 ∷ 3 ∷ 4 ∷ 5 ∷ 6 ∷ []) in leb (length all) 6 && rising_to n 0 all
 
 all_rise : (n : ℕ) → 1 ≤ n → n ≤ 6 → rises n ≡ true
 unfolding rising_to all_to

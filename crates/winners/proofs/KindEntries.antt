@@ -1,13 +1,12 @@
--- Four entries of a list, cut to those that count. Cited by the proofs of src/hours.rt and src/choice.rt, and by
--- HeldBids.antt. Assumes nothing.
-use mathlib.Core.Path.{◌≡◌, refl, ap, ◌∙◌}
+-- Four entries of a list, cut to those that count. Cited by the proof of src/choice.rt, and by Choosing.antt and HeldBids.antt. Assumes
+-- nothing.
+use mathlib.Core.Path.{◌≡◌, refl, ◌∙◌}
 use mathlib.Core.List.{List, [], ◌∷◌}
-use Prim.Native.Nat.{ℕ, zero, suc, ◌-◌, ◌≤◌, ◌<◌}
+use Prim.Native.Nat.{ℕ, zero, suc, ◌≤◌, ◌<◌}
 use native.Mathlib.Omega.{arith}
 use lib.ListN.{length, get_or, take}
 use lib.Seq.{ext_get_or, get_or-take, length-take-le}
 use Rattle.book.specs.Lists.{row}
-use Rattle.market.specs.Market.{less}
 use Rattle.winners.specs.ByKind.{by_kind}
 
 -- what holds of 0, 1, 2 and 3 holds below 4
@@ -30,11 +29,3 @@ by_kind_take k xs h e =
     ext_get_or 0 _ _ (own ∙ omega arith)
     (λ i l. get_or-take k (by_kind xs) i 0 (omega (arith, own))
     ∙ kinds_at (λ i. get_or xs i 0) _ _ _ _ refl refl refl refl i (omega (arith, own)))
-
--- what is left of all kinds, cut to k
-pub less_take : (k : ℕ) (ls hs : List ℕ) → take k (less ls hs) ≡ less (take k ls) (take k hs)
-unfolding less
-less_take zero ls hs = refl
-less_take (suc k) [] hs = refl
-less_take (suc k) (l ∷ ls) [] = refl
-less_take (suc k) (l ∷ ls) (h ∷ hs) = ap (λ (xs : List ℕ). (l - h) ∷ xs) (less_take k ls hs)

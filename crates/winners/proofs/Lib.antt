@@ -8,7 +8,6 @@ pub mod Promises
 pub mod Choosing
 pub mod ClientSets
 pub mod Doubling
-pub mod Followers
 pub mod Guard
 pub mod HeldBids
 pub mod Inserting
@@ -19,15 +18,16 @@ pub mod LanesLeast
 pub mod LanesLeft
 pub mod LaneSums
 pub mod LanesPacked
+pub mod Offers
 pub mod Owners
 pub mod PassSteps
 pub mod SetAfterSet
 pub mod Picks
 pub mod Refusals
-pub mod Rising
 pub mod RowsFilled
 pub mod RowsSettled
 pub mod Searching
+pub mod SetFromLast
 pub mod SetGreatest
 pub mod SetValues
 pub mod SigmaAnswers

@@ -1,5 +1,5 @@
--- The clients of bids that are a combination by rising client, as the list whose sets are weighed. Cited by the proof of src/weighing.rt.
--- Assumes nothing.
+-- The clients of bids that are a combination by rising client, as the list whose sets are weighed. Cited by the proof of src/weighing.rt
+-- and by WeighedAnswers.antt. Assumes nothing.
 use mathlib.Core.Path.{◌≡◌, refl, sym, ap, ◌∙◌}
 use mathlib.Core.Bool.{true, ◌&&◌, and-eq-true_iff}
 use mathlib.Core.List.{List, [], ◌∷◌, map}
@@ -10,7 +10,6 @@ use borrow.Author.Tests.{le-leb, lt-ltb}
 use lib.Dec.{leb, ltb}
 use lib.ListN.{length, take, length-map}
 use lib.Seq.{take-take, take_at}
-use Rattle.sets.proofs.Prefixes.{prefix_length}
 use Rattle.market.specs.Market.{at}
 use Rattle.market.specs.Combination as Market·
 use Rattle.book.specs.Book.{Book, client_of, clients}
@@ -36,29 +35,30 @@ rising_true n c (x ∷ xs) h r =
           (λ j k l m. r (suc j) (suc k) (omega arith) (omega arith)),
     )
 
-module _ (b : Book) (bids : List ℕ) (count : ℕ) (few : count ≤ 6) (long : length bids ≡ 6) where
-  owners_length : length (owners_of b bids count) ≡ count
+module _ (b : Book) (bids : List ℕ) where
+  pub owners_length : length (owners_of b bids) ≡ length bids
   unfolding owners_of
-  owners_length = length-map (take count bids) (client_of b) ∙ prefix_length bids count (omega arith)
+  owners_length = length-map bids (client_of b)
 
-  -- the array of clients, cut to the count
-  pub owners_take : take count (six (owners_of b bids count)) ≡ owners_of b bids count
+  -- the array of clients, cut to as many as there are
+  pub owners_take : length bids ≤ 6 → take (length bids) (six (owners_of b bids)) ≡ owners_of b bids
   unfolding six
-  owners_take = take-take count 6 _ few ∙ take_at _ _ count owners_length
+  owners_take few = take-take (length bids) 6 _ few ∙ take_at _ _ (length bids) owners_length
 
-  owners_rise : Combination b (take count bids) → Rising b (take count bids) → rising_to (clients b) 0 (owners_of b bids count) ≡ true
+  owners_rise : Combination b bids → Rising b bids → rising_to (clients b) 0 (owners_of b bids) ≡ true
   unfolding owners_of market Market·.Rising
   owners_rise c r =
-      let is = take count bids in
-      let e = length-map is (client_of b) in
-      let client : (j : ℕ) → j < length is → at (map (client_of b) is) j ≡ client_of b (at is j) = map_at (client_of b) is in
-      rising_true (clients b) 0 (map (client_of b) is)
+      let e = length-map bids (client_of b) in
+      let client : (j : ℕ) → j < length bids → at (map (client_of b) bids) j ≡ client_of b (at bids j) = map_at (client_of b) bids in
+      rising_true (clients b) 0 (map (client_of b) bids)
       (λ j l. let there = le_trans l (le_of_eq e) in
       (le_trans (c.owners j there).0 (le_of_eq (sym (client j there))), le_trans (le_of_eq (client j there)) (c.owners j there).1))
       (λ j k l h. let there = le_trans h (le_of_eq e) in
-      let before : j < length is = omega (arith, there) in
+      let before : j < length bids = omega (arith, there) in
       le_trans (le_of_eq (ap suc (client j before))) (le_trans (r j k l there) (le_of_eq (sym (client k there)))))
 
-  pub owners_listed : Sound b → Combination b (take count bids) → Rising b (take count bids)
-      → RisingList (six (owners_of b bids count)) count
-  owners_listed s c r = record { few = few; rising = rw owners_take (rising_more (clients b) 6 0 _ s.n_high (owners_rise c r)) }
+  pub owners_listed : Sound b → length bids ≤ 6 → Combination b bids → Rising b bids → RisingList (owners_of b bids)
+  owners_listed s few c r = record {
+    few = omega (arith, owners_length);
+    rising = rising_more (clients b) 6 0 _ s.n_high (owners_rise c r);
+  }

@@ -29,7 +29,8 @@ use Rattle.winners.specs.ClientSets.{clients_in, First, Others, Within}
 use Rattle.winners.specs.Full.{weight_most, Tail, one, next, Ceilings, Searchable, Searched}
 use Rattle.winners.specs.Lanes.{guards}
 use Rattle.winners.specs.Passes.{FloorPast, Weighable}
-use Rattle.winners.specs.Rows.{first_weight_at}
+use Rattle.winners.specs.Rows.{weight_at, row_of}
+use Rattle.winners.specs.declared.row.Row.{Row}
 use Rattle.winners.proofs.ClientSets.{clients_first, clients_without, clients_few, some_client, others_less}
 use Rattle.winners.proofs.ClientSets.{fewer_within, gone_alone, has_there, reach_fewer}
 use Rattle.winners.proofs.Taking.{more_fits}
@@ -83,8 +84,22 @@ held_next q t held now b some few eh eb en =
     rw longer (en ∙ ap₂ (λ (x : Bool) (y : ℕ). cond x 1 0 + 2 * y) (eb ∙ ap q (sym here))
     (eh ∙ ap (λ (f : ℕ → Bool). set_of (6 - t) f) (fun_ext (λ i. ap q (sym (later i))))))
 
+-- the same, by the client before which those passed stand
+pub set_next : (q : ℕ → Bool) (c held now : ℕ) (b : Bool) → 1 < c → c ≤ 7 → held ≡ set_of (7 - c) (λ i. q (c + i)) → b ≡ q (c - 1)
+    → now ≡ cond b 1 0 + 2 * held → now ≡ set_of (7 - (c - 1)) (λ i. q (c - 1 + i))
+unfolding set_of
+set_next q c held now b some few eh eb en =
+    let longer : 7 - (c - 1) ≡ suc (7 - c) = omega arith in
+    let here : c - 1 + 0 ≡ c - 1 = omega arith in
+    let later : (i : ℕ) → c - 1 + suc i ≡ c + i = λ i. omega arith in
+    rw longer (en ∙ ap₂ (λ (x : Bool) (y : ℕ). cond x 1 0 + 2 * y) (eb ∙ ap q (sym here))
+    (eh ∙ ap (λ (f : ℕ → Bool). set_of (7 - c) f) (fun_ext (λ i. ap q (sym (later i))))))
+
 pub held_few : (t : ℕ) (q : ℕ → Bool) → set_of (6 - t) q < 64
 held_few t q = omega (arith, set_of_lt (6 - t) q, pow_mono {i = 6 - t} {j = 6} (omega arith))
+
+pub set_few : (c : ℕ) (q : ℕ → Bool) → 1 ≤ c → set_of (7 - c) q < 64
+set_few c q some = omega (arith, set_of_lt (7 - c) q, pow_mono {i = 7 - c} {j = 6} (omega arith))
 
 -- HOW MUCH THERE IS TO REACH
 reach_most : (m : Market) (wt : ℕ → ℕ) (a : ℕ) → ((i : ℕ) → wt i ≤ a) → (cs ls : List ℕ) → reach m wt cs ls ≤ a * length cs
@@ -122,7 +137,7 @@ tail_room least (one {s = s} {c = t} h) ys ls f = first_room least s t h ys ls f
 tail_room least (next {s = s} {c = t} h tail) ys ls f = tail_room least tail ys ls (first_room least s t h ys ls f)
 
 -- THE VALUE OF A SET
-module _ (set used heads : ℕ) (rows values : List ℕ) (w : Weighable set used heads rows values) where
+module _ (set used heads : ℕ) (rows : List Row) (values : List ℕ) (w : Weighable set used heads rows values) where
   abbrev m : Market
   m = w.sale.m
 
@@ -153,7 +168,7 @@ module _ (set used heads : ℕ) (rows values : List ℕ) (w : Weighable set used
 
   -- where the heaviest bids fit together, the first client's weight and what the others reach
   pub value_together : {c : ℕ} → First set c → {others : ℕ} → Others set others → eqb (bit_and heads guards) 0 ≡ true
-      → get_or rows (first_weight_at c) 0 + get_or values others 0 ≡ reach m wt (clients_in set) supply
+      → weight_at (row_of rows c) 0 + get_or values others 0 ≡ reach m wt (clients_in set) supply
   value_together {c} f o y =
       let rest = set - 2 ^ (c - 1) in
       let first = clients_first set c f in
@@ -165,7 +180,7 @@ module _ (set used heads : ℕ) (rows values : List ℕ) (w : Weighable set used
       (rw first at (sym w.heads_room.clear ∙ y)))
       ∙ (rw first)
 
-  pub weight_few : {c : ℕ} → First set c → get_or rows (first_weight_at c) 0 ≤ weight_most
+  pub weight_few : {c : ℕ} → First set c → weight_at (row_of rows c) 0 ≤ weight_most
   weight_few {c} f = rw (w.headed c f.low f.high f.there).weighs (w.sale.laid.weights_few _)
 
   module _ (floor : ℕ) (f : FloorPast 0 set values floor) where

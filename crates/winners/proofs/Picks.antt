@@ -10,10 +10,9 @@ use native.Mathlib.Nat.{le_trans, le_of_suc-le-suc}
 use native.Mathlib.Omega.{arith}
 use borrow.Author.Tests.{ltb-true, leb-true, le-leb, eq-eqb, ne_eqb}
 use lib.Dec.{leb, ltb, eqb}
-use lib.ListN.{length, get_or, take}
+use lib.ListN.{length, get_or}
 use lib.Pow.{pow_mono}
 use Rattle.sets.specs.Sets.{has, set_of}
-use Rattle.sets.proofs.Prefixes.{prefix_length, prefix_at}
 use Rattle.sets.proofs.Members.{has_zero, set_of_lt, set_of_add}
 use Rattle.market.specs.Market.{at}
 use Rattle.market.proofs.Bools.{either}
@@ -108,13 +107,9 @@ module _ (cs : List ℕ) (L : ℕ) where
       set_of_add 6 (at cs j - 1) (early j) (early (j + 1)) (omega arith) (absent j t l) (present j t l y) (later j t l)
 
 -- the clients of a list are from 1 to 6
-pub listed_range : (clients : List ℕ) (count j : ℕ) → RisingList clients count → length clients ≡ 6 → j < count → (1 ≤ get_or clients j 0)
-    × (get_or clients j 0 ≤ 6)
-listed_range clients count j h e l =
-    let few = h.few in
-    let at_j = prefix_at clients count (omega arith) j l in
-    let r = rising_range 6 0 (take count clients) h.rising j (omega (arith, prefix_length clients count (omega arith))) in
-    (omega (arith, at_j, r.0), omega (arith, at_j, r.1))
+pub listed_range : (clients : List ℕ) (j : ℕ) → RisingList clients → j < length clients
+    → (1 ≤ get_or clients j 0) × (get_or clients j 0 ≤ 6)
+listed_range clients j h l = rising_range 6 0 clients h.rising j l
 
 -- a set of the first six numbers is below 64
 pub byte_small : (n : ℕ) (p : ℕ → Bool) → n ≤ 6 → set_of n p < 64

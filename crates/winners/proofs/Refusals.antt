@@ -1,13 +1,13 @@
--- A refusal number that is not above 0, and one that is. Cited by the proofs of the answers. Assumes nothing.
+-- The number of a question is not 0. Cited by the proofs of the answers. Assumes nothing.
 use mathlib.Core.Path.{◌≡◌}
 use mathlib.Core.Bool.{false}
-use Prim.Native.Nat.{ℕ, ◌≤◌, ◌<◌}
+use Prim.Native.Nat.{ℕ}
 use native.Mathlib.Omega.{arith}
 use borrow.Author.Tests.{ne_eqb}
 use lib.Dec.{eqb}
+use Rattle.questions.specs.Numbers.{number_of}
+use Rattle.questions.specs.declared.Question.{Question}
+use Rattle.questions.proofs.Numbers.{number_range}
 
-pub refusal_none : {n r : ℕ} → n ≡ r → n ≤ 0 → r ≡ 0
-refusal_none e l = omega arith
-
-pub refused_not_zero : (n r : ℕ) → n ≡ r → 0 < n → eqb r 0 ≡ false
-refused_not_zero n r e l = ne_eqb r 0 (λ (z : r ≡ 0). omega arith)
+pub refused_not_zero : (q : Question) (r : ℕ) → number_of q ≡ r → eqb r 0 ≡ false
+refused_not_zero q r e = ne_eqb r 0 (λ (z : r ≡ 0). omega (arith, e, number_range q))

@@ -17,12 +17,13 @@ use Rattle.market.proofs.Falling.{place_next, place_end, place_falls, place_firs
 use Rattle.sets.specs.Sets.{has}
 use Rattle.winners.specs.ClientSets.{clients_in, First, Others}
 use Rattle.winners.specs.Lanes.{Left, guards, lanes_full}
-use Rattle.winners.specs.Rows.{RowsHeld, counts_from, weight_at, asked_at, row_room}
+use Rattle.winners.specs.Rows.{OfferOf, RowHeld, RowsHeld, row_of, offer_at}
+use Rattle.winners.specs.declared.row.Offer.{Offer}
+use Rattle.winners.specs.declared.row.Row.{Row}
 use Rattle.winners.specs.Full.{weight_most, found_most, one, next, Ceilings, Searchable, Searched}
 use Rattle.winners.proofs.ClientSets.{clients_none, clients_first, clients_few, others_less}
 use Rattle.winners.proofs.Guard.{guards_clear, guards_some}
 use Rattle.winners.proofs.LaneSums.{used_most}
-use Rattle.winners.proofs.Trimming.{asked_few}
 use Rattle.winners.proofs.LanesLeft.{fit_here, left_after}
 
 -- HOW MUCH THERE IS TO FIND
@@ -53,23 +54,20 @@ ceilings_after m wt values s t ls hs h c r tail ys f = c r (next h tail) ys (fit
 abbrev rest_of : (set client : ℕ) → ℕ
 rest_of set client = set - 2 ^ (client - 1)
 
-abbrev count_in : (rows : List ℕ) (client : ℕ) → ℕ
-count_in rows client = get_or rows (counts_from + client) 0
-
-abbrev weight_in : (rows : List ℕ) (client d : ℕ) → ℕ
-weight_in rows client d = get_or rows (weight_at client d) 0
-
-abbrev hours_in : (rows : List ℕ) (client d : ℕ) → ℕ
-hours_in rows client d = get_or rows (asked_at client d) 0
+-- the offer at hand is of the bid at its place of the row
+offered_here : {m : Market} {wt : ℕ → ℕ} {k n t d : ℕ} {os : List Offer} {row : List ℕ} {o : Offer} → RowHeld m wt k n t os row
+    → o ≡ offer_at os d → d < length row → OfferOf m wt k (at row d) o
+offered_here {m} {wt} {k} {n} {t} {d} {os} {row} r here within =
+    subst (λ (x : Offer). OfferOf m wt k (at row d) x) (sym here) (r.offered d within)
 
 -- what place d of the row and the later ones reach, in a market that is laid out
-pub record Found (set client used floor : ℕ) (rows values : List ℕ) (hi : First set client) (top d : ℕ) : Type 0 where
+pub record Found (set client used floor : ℕ) (rows : List Row) (values : List ℕ) (hi : First set client) (top d : ℕ) : Type 0 where
   pub is : (m : Market) (wt : ℕ → ℕ) (k : ℕ) (ls : List ℕ) (h : RowsHeld m wt k m.bids rows) → Left k ls used
       → Ceilings m wt values set ls
       → max top (choose_in m wt (drop d (h client hi.low hi.high).0) ls 0 (λ rs. full m wt (clients_in (rest_of set client)) rs))
       ≡ max floor (full m wt (clients_in set) ls)
 
-module _ {set client used floor : ℕ} {rows values : List ℕ} {hi : First set client} where
+module _ {set client used floor : ℕ} {rows : List Row} {values : List ℕ} {hi : First set client} where
   pub found_first : Found set client used floor rows values hi floor 0
   found_first = record {
     is = λ m wt k ls h l c.
@@ -79,7 +77,7 @@ module _ {set client used floor : ℕ} {rows values : List ℕ} {hi : First set 
   }
 
   -- the row is passed
-  pub found_end : {top d : ℕ} → Found set client used floor rows values hi top d → count_in rows client ≤ d
+  pub found_end : {top d : ℕ} → Found set client used floor rows values hi top d → length (row_of rows client) ≤ d
       → Searched set used floor rows values top
   found_end {top} {d} f past = record {
     is = λ m wt k ls h l c.
@@ -88,51 +86,52 @@ module _ {set client used floor : ℕ} {rows values : List ℕ} {hi : First set 
         ∙ f.is m wt k ls h l c;
   }
 
-  -- a turn, at a bid of the row; g is the guards that are set once the bid is taken
-  module _ {top d : ℕ} (f : Found set client used floor rows values hi top d) (inside : d < count_in rows client) where
+  -- a turn, at an offer of the row; g is the guards that are set once the bid is taken
+  module _ {top d : ℕ} (f : Found set client used floor rows values hi top d) (inside : d < length (row_of rows client)) {o : Offer}
+      (here : o ≡ offer_at (row_of rows client) d) where
     -- the row ends where no later bid can beat what is found
-    pub found_falls : {rest : ℕ} → Others set rest → weight_in rows client d + get_or values rest 0 ≤ top
-        → Searched set used floor rows values top
-    found_falls o low = record {
+    pub found_falls : {rest : ℕ} → Others set rest → o.weight + get_or values rest 0 ≤ top → Searched set used floor rows values top
+    found_falls others low = record {
       is = λ m wt k ls h l c.
           let rest = rest_of set client in
           let (row, r) = h client hi.low hi.high in
           let within : d < length row = omega (arith, r.count) in
           sym (place_falls m wt ls (λ rs. full m wt (clients_in rest) rs) row d top (get_or values rest 0) r.falls
-          (λ e b t. c rest (one hi) _ (less_fits ls _)) (rw (o.is client hi, r.weighs d within) at low)) ∙ f.is m wt k ls h l c;
+          (λ e b t. c rest (one hi) _ (less_fits ls _)) (rw (others.is client hi, (offered_here r here within).weighs) at low))
+          ∙ f.is m wt k ls h l c;
     }
 
     -- a bid that does not fit
-    pub found_left : (g : ℕ) → g ≡ bit_and (used + hours_in rows client d) guards → g ≢ 0
-        → Found set client used floor rows values hi top (d + 1)
+    pub found_left : (g : ℕ) → g ≡ bit_and (used + o.hours) guards → g ≢ 0 → Found set client used floor rows values hi top (d + 1)
     found_left g e n = record {
       is = λ m wt k ls h l c.
           let (row, r) = h client hi.low hi.high in
           let within : d < length row = omega (arith, r.count) in
-          let fit = fit_here k _ ls _ used (r.asks d within) l in
+          let fit = fit_here k _ ls _ used (offered_here r here within).asks l in
           let step = place_next m wt ls (λ rs. full m wt (clients_in (rest_of set client)) rs) row d top within in
-          sym (rw (sym fit ∙ guards_some (used + hours_in rows client d) g e n) at step) ∙ f.is m wt k ls h l c;
+          sym (rw (sym fit ∙ guards_some (used + o.hours) g e n) at step) ∙ f.is m wt k ls h l c;
     }
 
     -- a bid that is taken, from a floor lowered by its weight
-    pub found_taken : {rest : ℕ} → Others set rest → (g : ℕ) → g ≡ bit_and (used + hours_in rows client d) guards → g ≡ 0
-        → {base more : ℕ} → base ≡ top - weight_in rows client d → Searched rest (used + hours_in rows client d) base rows values more
-        → Found set client used floor rows values hi (weight_in rows client d + more) (d + 1)
-    found_taken o g e z {base} {more} eb s = record {
+    pub found_taken : {rest : ℕ} → Others set rest → (g : ℕ) → g ≡ bit_and (used + o.hours) guards → g ≡ 0
+        → {base more : ℕ} → base ≡ top - o.weight → Searched rest (used + o.hours) base rows values more
+        → Found set client used floor rows values hi (o.weight + more) (d + 1)
+    found_taken others g e z {base} {more} eb s = record {
       is = λ m wt k ls h l c.
-          let weight = weight_in rows client d in
+          let weight = o.weight in
           let (row, r) = h client hi.low hi.high in
           let within : d < length row = omega (arith, r.count) in
-          let ask = r.asks d within in
-          let fit = sym (fit_here k _ ls _ used ask l) ∙ guards_clear (used + hours_in rows client d) g e z in
+          let offered = offered_here r here within in
+          let ask = offered.asks in
+          let fit = sym (fit_here k _ ls _ used ask l) ∙ guards_clear (used + o.hours) g e z in
           let hours = m.hours (at row d) in
           let on = full m wt (clients_in (rest_of set client)) (less ls hours) in
-          let searched = subst (λ (x : ℕ). Searched x (used + hours_in rows client d) base rows values more) (o.is client hi) s in
+          let searched = subst (λ (x : ℕ). Searched x (used + o.hours) base rows values more) (others.is client hi) s in
           let found = searched.is m wt k (less ls hours) h (left_after k hours ls _ used ask l fit)
           (ceilings_after m wt values set client ls hours hi c) in
           let raised : weight + more ≡ max top (wt (at row d) + on)
           = ap (λ (x : ℕ). weight + x) (found ∙ ap (λ (x : ℕ). max x on) eb) ∙ max_lowered top weight on
-          ∙ ap (λ (x : ℕ). max top (x + on)) (r.weighs d within) in
+          ∙ ap (λ (x : ℕ). max top (x + on)) offered.weighs in
           let step = place_next m wt ls (λ rs. full m wt (clients_in (rest_of set client)) rs) row d top within in
           rw raised (sym (rw fit at step) ∙ f.is m wt k ls h l c);
     }
@@ -149,22 +148,23 @@ nothing_more set client hi alone m wt rs =
     rw (nobody client (clients_in (rest_of set client)) (alone ∙ ap length (clients_first set client hi)))
 
 -- the first bid of its row that fits is the best
-pub last_fits : {set client used floor : ℕ} {rows values : List ℕ} {hi : First set client} {d : ℕ}
-    → Found set client used floor rows values hi floor d → d < count_in rows client → 1 ≡ length (clients_in set)
-    → (g : ℕ) → g ≡ bit_and (used + hours_in rows client d) guards → g ≡ 0
-    → Searched set used floor rows values (max floor (weight_in rows client d))
-last_fits {set} {client} {used} {floor} {rows} {values} {hi} {d} f inside alone g e z = record {
+pub last_fits : {set client used floor : ℕ} {rows : List Row} {values : List ℕ} {hi : First set client} {d : ℕ}
+    → Found set client used floor rows values hi floor d → d < length (row_of rows client)
+    → {o : Offer} → o ≡ offer_at (row_of rows client) d → 1 ≡ length (clients_in set)
+    → (g : ℕ) → g ≡ bit_and (used + o.hours) guards → g ≡ 0 → Searched set used floor rows values (max floor o.weight)
+last_fits {set} {client} {used} {floor} {rows} {values} {hi} {d} f inside {o} here alone g e z = record {
   is = λ m wt k ls h l c.
       let (row, r) = h client hi.low hi.high in
       let within : d < length row = omega (arith, r.count) in
-      let fit = sym (fit_here k _ ls _ used (r.asks d within) l) ∙ guards_clear (used + hours_in rows client d) g e z in
+      let offered = offered_here r here within in
+      let fit = sym (fit_here k _ ls _ used offered.asks l) ∙ guards_clear (used + o.hours) g e z in
       let best = place_first m wt ls (λ rs. full m wt (clients_in (rest_of set client)) rs) row d floor within r.falls
       (nothing_more set client hi alone m wt) fit in
-      ap (λ (x : ℕ). max floor x) (r.weighs d within ∙ sym best) ∙ f.is m wt k ls h l c;
+      ap (λ (x : ℕ). max floor x) (offered.weighs ∙ sym best) ∙ f.is m wt k ls h l c;
 }
 
 -- NUMBERS STAY FEW
-module _ {ahead set used floor : ℕ} {rows values : List ℕ} (w : Searchable ahead set used floor rows values) where
+module _ {ahead set used floor : ℕ} {rows : List Row} {values : List ℕ} (w : Searchable ahead set used floor rows values) where
   pub top_few : {client : ℕ} {hi : First set client} {top d : ℕ} → Found set client used floor rows values hi top d
       → top ≤ found_most
   top_few f =
@@ -175,36 +175,26 @@ module _ {ahead set used floor : ℕ} {rows values : List ℕ} (w : Searchable a
         w.floor_few,
       )
 
-  -- at a bid of the first client's row
-  module _ {client : ℕ} (hi : First set client) (d : ℕ) (inside : d < count_in rows client) where
-    pub place_few : d < row_room
-    place_few = let (row, r) = w.held client hi.low hi.high in omega (arith, r.count, r.few)
-
-    pub weight_few : weight_in rows client d ≤ weight_most
+  -- at an offer of the first client's row
+  module _ {client : ℕ} (hi : First set client) {d : ℕ} (inside : d < length (row_of rows client)) {o : Offer}
+      (here : o ≡ offer_at (row_of rows client) d) where
+    pub weight_few : o.weight ≤ weight_most
     weight_few =
         let (row, r) = w.held client hi.low hi.high in
-        rw (r.weighs d (omega (arith, r.count))) (w.weights_few _)
+        rw (offered_here r here (omega (arith, r.count))).weighs (w.weights_few _)
 
-    pub hours_few : used + hours_in rows client d ≤ lanes_full + lanes_full
-    hours_few =
-        let (row, r) = w.held client hi.low hi.high in
-        omega (
-          arith,
-          asked_few w.k _ _ w.left.kinds_few (r.asks d (omega (arith, r.count))),
-          w.left.lanes,
-          used_most w.hours,
-        )
+    pub hours_few : used + o.hours ≤ lanes_full + lanes_full
+    hours_few = omega (arith, o.in_lanes, w.left.lanes, used_most w.hours)
 
     -- the others may be searched once it is taken
-    searchable_rest : (g : ℕ) → g ≡ bit_and (used + hours_in rows client d) guards → g ≡ 0
+    searchable_rest : (g : ℕ) → g ≡ bit_and (used + o.hours) guards → g ≡ 0
         → (base : ℕ) → base ≤ found_most → 2 ≤ ahead
-        → Searchable (ahead - 1) (rest_of set client) (used + hours_in rows client d) base rows values
+        → Searchable (ahead - 1) (rest_of set client) (used + o.hours) base rows values
     searchable_rest g e z base few more =
         let (row, r) = w.held client hi.low hi.high in
-        let ask = r.asks d (omega (arith, r.count)) in
+        let ask = (offered_here r here (omega (arith, r.count))).asks in
         let hours = w.m.hours (at row d) in
-        let fit = sym (fit_here w.k hours w.hours _ used ask w.left)
-        ∙ guards_clear (used + hours_in rows client d) g e z in
+        let fit = sym (fit_here w.k hours w.hours _ used ask w.left) ∙ guards_clear (used + o.hours) g e z in
         record {
           m = w.m;
           wt = w.wt;
@@ -221,9 +211,8 @@ module _ {ahead set used floor : ℕ} {rows values : List ℕ} (w : Searchable a
           floor_few = few;
         }
 
-    pub searchable_next : {rest : ℕ} → Others set rest → (g : ℕ) → g ≡ bit_and (used + hours_in rows client d) guards → g ≡ 0
-        → {base : ℕ} → base ≤ found_most → 2 ≤ ahead
-        → Searchable (ahead - 1) rest (used + hours_in rows client d) base rows values
-    searchable_next o g e z {base} few more =
-        subst (λ (x : ℕ). Searchable (ahead - 1) x (used + hours_in rows client d) base rows values) (sym (o.is client hi))
+    pub searchable_next : {rest : ℕ} → Others set rest → (g : ℕ) → g ≡ bit_and (used + o.hours) guards → g ≡ 0
+        → {base : ℕ} → base ≤ found_most → 2 ≤ ahead → Searchable (ahead - 1) rest (used + o.hours) base rows values
+    searchable_next others g e z {base} few more =
+        subst (λ (x : ℕ). Searchable (ahead - 1) x (used + o.hours) base rows values) (sym (others.is client hi))
         (searchable_rest g e z base few more)

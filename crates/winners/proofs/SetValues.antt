@@ -1,7 +1,7 @@
 -- The value of all clients, and the σ table by set number: what the loop over the sets leaves, and that it is the table of a list of
 -- clients. Cited by the proofs of src/value.rt, src/values.rt, src/table.rt and src/weighing.rt. Assumes nothing.
 use mathlib.Core.Path.{◌≡◌, refl, sym, ap, ap₂, fun_ext, ◌∙◌}
-use mathlib.Core.Bool.{Bool, true, false, ◌&&◌, not, cond, and-true}
+use mathlib.Core.Bool.{Bool, true, false, not, cond, and-true}
 use mathlib.Core.List.{List}
 use Prim.Native.Nat.{ℕ, zero, suc, ◌+◌, ◌-◌, ◌^◌, ◌≤◌, ◌<◌}
 use native.Mathlib.Nat.{pow-suc}
@@ -9,7 +9,8 @@ use native.Mathlib.Decide.{dec_lt}
 use native.Mathlib.Omega.{arith}
 use borrow.Author.Tests.{lt-ltb, le-ltb, le-leb}
 use lib.Dec.{leb, ltb}
-use lib.ListN.{get_or, take}
+use lib.ListN.{length, get_or}
+use lib.Pow.{pow_pos}
 use lib.Seq.{ext_get_or}
 use Rattle.sets.specs.Sets.{has, set_of}
 use Rattle.sets.proofs.Filled.{Filled}
@@ -22,7 +23,7 @@ use Rattle.winners.specs.Greatest.{discarded, greatest, greatest_without}
 use Rattle.winners.specs.Passes.{ValuesTo}
 use Rattle.winners.specs.Surplus.{picked, surplus}
 use Rattle.winners.specs.Surpluses.{surplus_table}
-use Rattle.winners.specs.ClientLists.{Discards, SigmaFound}
+use Rattle.winners.specs.ClientLists.{Discards}
 use Rattle.winners.specs.Rows.{searched}
 use Rattle.winners.proofs.Greatest.{greatest_all}
 use Rattle.winners.proofs.Most.{greatest_most}
@@ -65,32 +66,12 @@ module _ (b : Book) (s : Sound b) (d : ℕ) (values : List ℕ) (v : ValuesTo (s
 
 -- THE LOOP OVER THE SETS
 -- the entry of a set; the empty one has 0
-abbrev pub entry : (value : ℕ) → (values discards : List ℕ) → (set : ℕ) → ℕ
-entry value values ds L = cond (leb 1 L) (value - get_or values (63 - get_or ds L 0) 0) 0
-
-pub entry_at : (value : ℕ) (values ds : List ℕ) (L : ℕ) (x : ℕ) → 1 ≤ L → x ≡ value - get_or values (63 - get_or ds L 0) 0
-    → x ≡ entry value values ds L
-entry_at value values ds L x l e = rw (le-leb 1 L l) e
-
--- the sets from 1 to `end`
-pub sigma_done : (value : ℕ) (values ds : List ℕ) (set end : ℕ) (sigma : List ℕ) → set ≡ end → 1 ≤ end
-    → Filled 64 (entry value values ds) set sigma
-    → SigmaFound value values ds end sigma
-sigma_done value values ds set end sigma e l f = record { long = f.long; each = each }
-  where
-    each : (L : ℕ) → get_or sigma L 0 ≡ cond (leb 1 L && ltb L end) (value - get_or values (63 - get_or ds L 0) 0) 0
-    each zero = f.below 0 (omega arith)
-    each (suc L) = elim (dec_lt (suc L) end) [
-      | yes k ↦ rw (le-leb 1 (suc L) (omega arith), lt-ltb (suc L) end k) (f.below (suc L) (omega arith)
-          ∙ rw (le-leb 1 (suc L) (omega arith)))
-      | no k ↦ rw (le-leb 1 (suc L) (omega arith), le-ltb (suc L) end (omega arith)) (f.above (suc L) (omega arith))
-    ]
+abbrev pub entry : (values discards : List ℕ) → (set : ℕ) → ℕ
+entry values ds L = cond (leb 1 L) (get_or values 63 0 - get_or values (63 - get_or ds L 0) 0) 0
 
 -- those whom the sets pick are sets
-pub discards_few : (clients ds : List ℕ) (count end : ℕ) → Discards clients count ds → end ≡ 2 ^ count
-    → (L : ℕ) → L < end → get_or ds L 0 < 64
-discards_few clients ds count end h e L l =
-    rw (h L (omega arith)) (byte_small 6 (λ j. picked (take count clients) L (1 + j)) (omega arith))
+pub discards_few : (clients ds : List ℕ) → Discards clients ds → (L : ℕ) → L < 2 ^ length clients → get_or ds L 0 < 64
+discards_few clients ds h L l = rw (h L l) (byte_small 6 (λ j. picked clients L (1 + j)) (omega arith))
 
 -- THE TABLE
 module _ (b : Book) (cs : List ℕ) where
@@ -113,25 +94,24 @@ module _ (b : Book) (cs : List ℕ) where
       rw (none_out c, has_rest d (λ j. picked cs L (1 + j)) ed (c - 1) (omega arith), back) (and-true (not (picked cs L c)))))
 
 -- the whole table
-pub table_done : (b : Book) (clients ds sigma values : List ℕ) (count end v : ℕ) → Sound b → Discards clients count ds → end ≡ 2 ^ count
-    → v ≡ greatest b 0 → ValuesTo (searched b 0) (amount_of b) (supplies b) 64 values → SigmaFound v values ds end sigma
-    → sigma ≡ surplus_table b (take count clients) count
+pub table_done : (b : Book) (clients ds sigma values : List ℕ) (end : ℕ) → Sound b → Discards clients ds → end ≡ 2 ^ length clients
+    → ValuesTo (searched b 0) (amount_of b) (supplies b) 64 values → Filled 64 (entry values ds) end sigma
+    → sigma ≡ surplus_table b clients
 unfolding surplus_table
-table_done b clients ds sigma values count end v s d ee ev h f =
+table_done b clients ds sigma values end s d ee h f =
     ext_get_or 0 sigma _ (f.long ∙ sym (tabulate_length 64 table))
-    (λ L k. f.each L ∙ same L ∙ sym (tabulate_at 64 table L 0 (omega (arith, f.long))))
+    (λ L k. same L ∙ sym (tabulate_at 64 table L 0 (omega (arith, f.long))))
   where
     table : ℕ → ℕ
-    table L = cond (ltb L (2 ^ count)) (surplus b (take count clients) L) 0
+    table L = cond (ltb L (2 ^ length clients)) (surplus b clients L) 0
 
-    same : (L : ℕ) → cond (leb 1 L && ltb L end) (v - get_or values (63 - get_or ds L 0) 0) 0 ≡ table L
-    same zero = sym (none (ltb 0 (2 ^ count)) (surplus_none b (take count clients)))
-      where
-        none : (t : Bool) {x : ℕ} → x ≡ 0 → cond t x 0 ≡ 0
-        none true e = e
-        none false e = refl
-    same (suc L) = elim (dec_lt (suc L) (2 ^ count)) [
-      | yes k ↦ rw (le-leb 1 (suc L) (omega arith), ee, lt-ltb (suc L) (2 ^ count) k)
-          (surplus_set b (take count clients) s (suc L) v (get_or ds (suc L) 0) values h ev (d (suc L) k))
-      | no k ↦ rw (le-leb 1 (suc L) (omega arith), ee, le-ltb (suc L) (2 ^ count) (omega arith))
+    same : (L : ℕ) → get_or sigma L 0 ≡ table L
+    same zero =
+        let some : 0 < 2 ^ length clients = pow_pos (length clients) in
+        f.below 0 (omega (arith, ee)) ∙ sym (rw (lt-ltb 0 (2 ^ length clients) some) (surplus_none b clients))
+    same (suc L) = elim (dec_lt (suc L) (2 ^ length clients)) [
+      | yes k ↦ rw (lt-ltb (suc L) (2 ^ length clients) k) (f.below (suc L) (omega arith)
+          ∙ rw (le-leb 1 (suc L) (omega arith))
+          (surplus_set b clients s (suc L) (get_or values 63 0) (get_or ds (suc L) 0) values h (all_value b s 0 values h) (d (suc L) k)))
+      | no k ↦ rw (le-ltb (suc L) (2 ^ length clients) (omega arith)) (f.above (suc L) (omega arith))
     ]

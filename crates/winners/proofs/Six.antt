@@ -1,14 +1,13 @@
 -- Six entries of a list with zeros after it. Cited by the proof of `owners_of` and by Owners.antt. Assumes nothing.
-use mathlib.Core.Path.{◌≡◌, refl, sym, ap, ◌∙◌}
+use mathlib.Core.Path.{◌≡◌, refl, sym, ◌∙◌}
 use mathlib.Core.List.{List, [], ◌∷◌, ◌++◌, map}
 use Prim.Native.Nat.{ℕ, zero, suc, ◌≤◌, ◌<◌}
 use native.Mathlib.Nat.{le_of_suc-le-suc}
 use native.Mathlib.Decide.{dec_lt}
 use native.Mathlib.Omega.{arith}
-use lib.ListN.{length, get_or, take, replicate, length-append, length-map, get_or-eq_default}
+use lib.ListN.{length, get_or, replicate, length-append, length-map, get_or-eq_default}
 use lib.Seq.{ext_get_or, get_or-take, length-take-le}
 use Rattle.sets.proofs.Filled.{Filled, zeros_at}
-use Rattle.sets.proofs.Prefixes.{prefix_length, prefix_at}
 use Rattle.winners.specs.Weighed.{six}
 
 -- an entry of a list with zeros after it
@@ -32,18 +31,14 @@ map_at g (x ∷ xs) zero l = refl
 map_at g (x ∷ xs) (suc L) l = map_at g xs L (le_of_suc-le-suc l)
 
 -- six entries filled with g of a list's first are those of the list
-pub six_done : (g : ℕ → ℕ) (is : List ℕ) (w : ℕ) (xs : List ℕ) → w ≤ length is → w ≤ 6 → Filled 6 (λ j. g (get_or is j 0)) w xs
-    → xs ≡ six (map g (take w is))
-six_done g is w xs h s f =
-    ext_get_or 0 xs _ (f.long ∙ sym (six_length (map g (take w is)))) (λ L l. entry L (omega (arith, f.long))
-    ∙ sym (six_at (map g (take w is)) L (omega (arith, f.long))))
+pub six_done : (g : ℕ → ℕ) (is : List ℕ) (xs : List ℕ) → length is ≤ 6 → Filled 6 (λ j. g (get_or is j 0)) (length is) xs
+    → xs ≡ six (map g is)
+six_done g is xs few f =
+    ext_get_or 0 xs _ (f.long ∙ sym (six_length (map g is))) (λ L l. entry L (omega (arith, f.long))
+    ∙ sym (six_at (map g is) L (omega (arith, f.long))))
   where
-    e : length (take w is) ≡ w
-    e = prefix_length is w h
-
-    entry : (L : ℕ) → L < 6 → get_or xs L 0 ≡ get_or (map g (take w is)) L 0
-    entry L l = elim (dec_lt L w) [
-      | yes m ↦ f.below L m ∙ sym (map_at g (take w is) L (omega (arith, e)) ∙ ap g (prefix_at is w h L m))
-      | no m ↦ f.above L (omega arith)
-          ∙ sym (get_or-eq_default (map g (take w is)) 0 {n = L} (omega (arith, length-map (take w is) g, e)))
+    entry : (L : ℕ) → L < 6 → get_or xs L 0 ≡ get_or (map g is) L 0
+    entry L l = elim (dec_lt L (length is)) [
+      | yes m ↦ f.below L m ∙ sym (map_at g is L m)
+      | no m ↦ f.above L (omega arith) ∙ sym (get_or-eq_default (map g is) 0 {n = L} (omega (arith, length-map is g)))
     ]

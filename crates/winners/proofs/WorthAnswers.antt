@@ -7,6 +7,9 @@ use native.Mathlib.Decide.{dec_lt}
 use native.Mathlib.Omega.{arith}
 use borrow.Author.Tests.{lt-ltb, le-ltb}
 use lib.Pow.{pow_pos}
+use Rattle.questions.specs.Numbers.{number_of}
+use Rattle.questions.specs.declared.Question.{Question}
+use Rattle.questions.proofs.Numbers.{number_range}
 use Rattle.book.specs.Book.{Book, clients}
 use Rattle.book.specs.Sound.{Shaped}
 use Rattle.winners.specs.Greatest.{greatest, discarded}
@@ -23,11 +26,12 @@ large_byte : (d p : ℕ) → 0 < d / p → p ≤ d
 large_byte d p z = elim (dec_lt d p) [ yes l ↦ absurd (omega (arith, div-eq_of_lt l)) | no l ↦ omega arith ]
 
 module _ (r : ℕ) (b : Book) (d : ℕ) where
-  pub worth_refused : (n : ℕ) → n ≡ r → 0 < n → WorthIs r b d n 0
+  pub worth_refused : (q : Question) → number_of q ≡ r → WorthIs r b d (number_of q) 0
   unfolding value_refusal value_of
-  worth_refused n e l =
-      let f = refused_not_zero n r e l in
-      record { numbered = rw f e; valued = rw (f, f); greatest = λ z. absurd (omega arith) }
+  worth_refused q e =
+      let low = (number_range q).0 in
+      let f = refused_not_zero q r e in
+      record { numbered = rw f e; valued = rw (f, f); greatest = λ z. absurd (omega (arith, z, low)) }
 
   pub worth_past : r ≡ 0 → (n : ℕ) → n ≡ clients b → 0 < d / 2 ^ n → WorthIs r b d 16 0
   unfolding value_refusal value_of

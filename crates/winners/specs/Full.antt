@@ -6,6 +6,7 @@ use Rattle.market.specs.Members.{full}
 use Rattle.winners.specs.ClientSets.{clients_in, First}
 use Rattle.winners.specs.Lanes.{Left}
 use Rattle.winners.specs.Rows.{RowsHeld}
+use Rattle.winners.specs.declared.row.Row.{Row}
 
 -- the largest weight, 2^53, and what six clients come to at the most
 abbrev pub weight_most : ℕ
@@ -25,7 +26,7 @@ Ceilings m wt values s ls =
     (r : ℕ) → Tail s r → (hours : List ℕ) → fits hours ls ≡ true → full m wt (clients_in r) hours ≤ get_or values r 0
 
 -- some market whose rows and ceilings are there, the number of the set's clients, and numbers few enough to be added up
-pub record Searchable (ahead set used floor : ℕ) (rows values : List ℕ) : Type 0 where
+pub record Searchable (ahead set used floor : ℕ) (rows : List Row) (values : List ℕ) : Type 0 where
   pub m : Market
   pub wt : ℕ → ℕ
   pub k : ℕ
@@ -41,6 +42,6 @@ pub record Searchable (ahead set used floor : ℕ) (rows values : List ℕ) : Ty
   pub floor_few : floor ≤ found_most
 
 -- the larger of the floor and of the greatest value of the set's clients where nobody passes
-pub record Searched (set used floor : ℕ) (rows values : List ℕ) (value : ℕ) : Type 0 where
+pub record Searched (set used floor : ℕ) (rows : List Row) (values : List ℕ) (value : ℕ) : Type 0 where
   pub is : (m : Market) (wt : ℕ → ℕ) (k : ℕ) (hours : List ℕ) → RowsHeld m wt k m.bids rows → Left k hours used
       → Ceilings m wt values set hours → value ≡ max floor (full m wt (clients_in set) hours)

@@ -9,7 +9,6 @@ pub mod Weighed
 -- What only this crate's own contracts and proofs cite: what the search looks up, and what private functions ask.
 pub mod ClientLists
 pub mod ClientSets
-pub mod Following
 pub mod Full
 pub mod ByKind
 pub mod Lanes

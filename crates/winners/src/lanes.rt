@@ -6,43 +6,30 @@ ghost use Rattle.std.specs.Int.Bits.{bit_and};
 ghost use Rattle.winners.specs.Lanes.{packed, used, Bytes, ones, guards, lanes_full, over_lanes, SmallerLanes};
 
 // 255 in each lane.
-const FULL: u64 = 71777214294589695;
+const FULL: u64 = 0x00ff_00ff_00ff_00ff;
 // Bit 8 of each lane.
-const GUARDS: u64 = 72058693566333184;
+const GUARDS: u64 = 0x0100_0100_0100_0100;
 // What the second, third and fourth lane count.
-const SECOND: u64 = 65536;
+const SECOND: u64 = 1 << 16;
 
-const THIRD: u64 = 4294967296;
+const THIRD: u64 = 1 << 32;
 
-const FOURTH: u64 = 281474976710656;
-
-// What one kind's lane holds: its hours.
-fn lane(hours: u8) -> u64
-    ensures { (result ≡ hours) × (result ≤ 255) }
-{
-    hours as u64
-}
+const FOURTH: u64 = 1 << 48;
 
 // Every bit of the first k lanes; the lanes are four.
 fn lanes_to(k: usize) -> u64
     ensures { result ≡ ones (min k 4) }
 {
-    if k < 4 {
-        (1 << (16 * k)) - 1
-    } else {
-        18446744073709551615
-    }
+    if k < 4 { (1 << (16 * k)) - 1 } else { u64::MAX }
 }
 
 // The hours asked of the first k kinds: all four are put into their lanes, and those past the first k are cut off.
 pub(crate) fn packed(k: usize, asked: [u8; 4]) -> u64
     ensures { (result ≡ packed (take k asked)) × (result ≤ lanes_full) × Bytes (take k asked) }
 {
-    let a = lane(asked[0]);
-    let b = lane(asked[1]);
-    let c = lane(asked[2]);
-    let d = lane(asked[3]);
-    (a + b * SECOND + c * THIRD + d * FOURTH) & lanes_to(k)
+    let [a, b, c, d] = asked;
+    (u64::from(a) + u64::from(b) * SECOND + u64::from(c) * THIRD + u64::from(d) * FOURTH)
+        & lanes_to(k)
 }
 
 // The hours used where these are left.
@@ -73,7 +60,8 @@ fn over(a: u64, b: u64) -> u64
 // Lane by lane the smaller of two.
 pub(crate) fn least(a: u64, b: u64) -> u64
     requires { (a ≤ lanes_full) × (b ≤ lanes_full) }
-    ensures { SmallerLanes a b result }
+    ensures smaller { SmallerLanes a b result }
+    ensures few { result ≤ lanes_full }
 {
-    numbers::excess(a, over(a, b))
+    a.saturating_sub(over(a, b))
 }

@@ -1,12 +1,17 @@
 // v and σ of every set of a list of clients: each set is weighed once.
-ghost use Rattle.std.specs.Prelude.{◌≡◌, replicate};
+ghost use Rattle.std.specs.Prelude.{◌≡◌};
+ghost use Rattle.std.specs.Result.{result_unwrap_or};
 ghost use Rattle.book.specs.Value.{book_of, sound_number};
-ghost use Rattle.winners.specs.Surpluses.{SurplusesAre, AllSurplusesAre};
+ghost use Rattle.questions.specs.Numbers.{number_in};
+ghost use Rattle.winners.specs.Surpluses.{no_surpluses, SurplusesAre, AllSurplusesAre};
 
 use crate::places::ALL;
+use crate::values::Surpluses;
 use crate::{lists, pass, values};
 use book::Book;
+use questions::Question;
 
+// The answer as callers in C have it: 0 and the surpluses, or the number of the question that is answered no, and zeros.
 #[derive(Clone, Copy)]
 #[repr(C)]
 pub struct SigmaTable {
@@ -15,55 +20,70 @@ pub struct SigmaTable {
     pub sigma: [u64; 64],
 }
 
-// A refusal has its number and zeros.
-fn refused(number: u32) -> SigmaTable
-    ensures { (result.number ≡ number) × (result.value ≡ 0) × (result.sigma ≡ replicate 64 0) }
-{
-    SigmaTable {
-        number,
-        value: 0,
-        sigma: [0; 64],
+impl From<Result<Surpluses, Question>> for SigmaTable {
+    ghost from_gives = { λ answer table. (table.number ≡ number_in answer)
+        × (table.value ≡ (result_unwrap_or answer no_surpluses).value)
+        × (table.sigma ≡ (result_unwrap_or answer no_surpluses).sigma) };
+
+    fn from(answer: Result<Surpluses, Question>) -> SigmaTable {
+        match answer {
+            Ok(found) => {
+                let sigma = found.sigma;
+                SigmaTable {
+                    number: 0,
+                    value: found.value,
+                    sigma,
+                }
+            }
+            Err(question) => SigmaTable {
+                number: question.into(),
+                value: 0,
+                sigma: [0; 64],
+            },
+        }
     }
 }
 
 // Of a sound book.
-fn of_sound(book: Book, clients: [u8; 6], count: usize) -> SigmaTable
-    requires { sound_number book ≡ 0 }
-    ensures { SurplusesAre 0 (book_of book) clients count result.number result.value result.sigma }
+fn of_sound(book: &Book, clients: &[u8]) -> Result<Surpluses, Question>
+    requires { sound_number book.now ≡ 0 }
+    ensures { let found = result_unwrap_or result no_surpluses in
+        SurplusesAre 0 (book_of book.now) clients.now (number_in result) found.value found.sigma }
 {
-    if !lists::is_rising(clients, count, book.n as usize) {
-        return refused(16);
+    if !lists::is_rising(clients, usize::from(book.n)) {
+        return Err(Question::Clients);
     }
     let values = pass::weigh_all(book, 0);
-    let value = values[ALL];
-    let discards = lists::discards(clients, count);
-    let sigma = values::sigma_by(value, discards, numbers::sets_end(count), &values);
-    SigmaTable {
-        number: 0,
-        value,
+    let sigma = values::sigma_by(clients, &values);
+    Ok(Surpluses {
+        value: values[ALL],
         sigma,
-    }
+    })
 }
 
 // Of a book that is a value.
-pub fn surpluses_of(book: Book, clients: [u8; 6], count: usize) -> SigmaTable
-    ensures { SurplusesAre (sound_number book) (book_of book) clients count result.number result.value result.sigma }
+pub fn surpluses_of(book: &Book, clients: &[u8]) -> Result<Surpluses, Question>
+    ensures { let found = result_unwrap_or result no_surpluses in
+        SurplusesAre (sound_number book.now) (book_of book.now) clients.now (number_in result) found.value found.sigma }
 {
-    let number = book::sound(book);
-    if 0 < number {
-        return refused(number as u32);
-    }
-    of_sound(book, clients, count)
+    book.sound()?;
+    of_sound(book, clients)
 }
 
 // Of all clients of the book that bytes hold, whatever follows it. What was read is sound.
+fn surpluses_in(book: &[u8]) -> Result<Surpluses, Question>
+    ensures { let found = result_unwrap_or result no_surpluses in
+        AllSurplusesAre book.now (number_in result) found.value found.sigma }
+{
+    let reading = book::read(book)?;
+    let n = usize::from(reading.book.n);
+    let clients = [1, 2, 3, 4, 5, 6];
+    of_sound(&reading.book, &clients[..n])
+}
+
+// The same as callers in C have it.
 pub fn surpluses(book: &[u8]) -> SigmaTable
     ensures { AllSurplusesAre book.now result.number result.value result.sigma }
 {
-    let reading = book::read(book);
-    if 0 < reading.number {
-        return refused(reading.number as u32);
-    }
-    let n = reading.book.n as usize;
-    of_sound(reading.book, [1, 2, 3, 4, 5, 6], n)
+    surpluses_in(book).into()
 }

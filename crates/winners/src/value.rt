@@ -1,14 +1,18 @@
 // The greatest value with clients discarded: the book's own number, 16, and the value.
 ghost use Rattle.std.specs.Prelude.{◌≡◌};
+ghost use Rattle.std.specs.Result.{result_unwrap_or};
 ghost use Rattle.book.specs.Layout.{book_in};
 ghost use Rattle.book.specs.Questions.{book_refusal};
 ghost use Rattle.book.specs.Value.{book_of, sound_number};
+ghost use Rattle.questions.specs.Numbers.{number_in};
 ghost use Rattle.winners.specs.Worth.{WorthIs};
 
 use crate::pass;
 use crate::places::ALL;
 use book::Book;
+use questions::Question;
 
+// The answer as callers in C have it: 0 and the value, or the number of the question that is answered no, and no value.
 #[derive(Clone, Copy)]
 #[repr(C)]
 pub struct Worth {
@@ -16,46 +20,51 @@ pub struct Worth {
     pub value: u32,
 }
 
-// A refusal has its number and no value.
-fn refused(number: u32) -> Worth
-    ensures { (result.number ≡ number) × (result.value ≡ 0) }
-{
-    Worth { number, value: 0 }
+impl From<Result<u32, Question>> for Worth {
+    ghost from_gives = { λ answer worth. (worth.number ≡ number_in answer) × (worth.value ≡ result_unwrap_or answer 0) };
+
+    fn from(answer: Result<u32, Question>) -> Worth {
+        match answer {
+            Ok(value) => Worth { number: 0, value },
+            Err(question) => Worth {
+                number: question.into(),
+                value: 0,
+            },
+        }
+    }
 }
 
 // Of a sound book.
-fn of_sound(book: Book, discard: u8) -> Worth
-    requires { sound_number book ≡ 0 }
-    ensures { WorthIs 0 (book_of book) discard result.number result.value }
+fn of_sound(book: &Book, discard: u8) -> Result<u32, Question>
+    requires { sound_number book.now ≡ 0 }
+    ensures { WorthIs 0 (book_of book.now) discard (number_in result) (result_unwrap_or result 0) }
 {
     if 0 < (discard >> book.n) {
-        return refused(16);
+        return Err(Question::Clients);
     }
     let values = pass::weigh_all(book, discard);
-    Worth {
-        number: 0,
-        value: values[ALL] as u32,
-    }
+    Ok(values[ALL] as u32)
 }
 
 // Of a book that is a value.
-pub fn greatest_of(book: Book, discard: u8) -> Worth
-    ensures { WorthIs (sound_number book) (book_of book) discard result.number result.value }
+pub fn greatest_of(book: &Book, discard: u8) -> Result<u32, Question>
+    ensures { WorthIs (sound_number book.now) (book_of book.now) discard (number_in result) (result_unwrap_or result 0) }
 {
-    let number = book::sound(book);
-    if 0 < number {
-        return refused(number as u32);
-    }
+    book.sound()?;
     of_sound(book, discard)
 }
 
 // Of the book that bytes hold, whatever follows it. What was read is sound.
+fn greatest_in(book: &[u8], discard: u8) -> Result<u32, Question>
+    ensures { WorthIs (book_refusal book.now) (book_in book.now) discard (number_in result) (result_unwrap_or result 0) }
+{
+    let reading = book::read(book)?;
+    of_sound(&reading.book, discard)
+}
+
+// The same as callers in C have it.
 pub fn greatest_value(book: &[u8], discard: u8) -> Worth
     ensures { WorthIs (book_refusal book.now) (book_in book.now) discard result.number result.value }
 {
-    let reading = book::read(book);
-    if 0 < reading.number {
-        return refused(reading.number as u32);
-    }
-    of_sound(reading.book, discard)
+    greatest_in(book, discard).into()
 }

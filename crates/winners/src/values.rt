@@ -1,26 +1,35 @@
-// σ of sets, by the values of all sets of clients.
-ghost use Rattle.std.specs.Prelude.{ℕ, ◌≤◌, ◌<◌, get_or};
-ghost use Rattle.winners.specs.ClientLists.{SigmaFound};
+// v and σ of sets of clients, by the values of all sets of clients.
+ghost use Rattle.std.specs.Prelude.{◌≡◌};
+ghost use Rattle.book.specs.Book.{Book, supplies};
+ghost use Rattle.book.specs.Sound.{Sound};
+ghost use Rattle.winners.specs.ClientLists.{RisingList};
+ghost use Rattle.winners.specs.Combinations.{amount_of};
+ghost use Rattle.winners.specs.Passes.{ValuesTo};
+ghost use Rattle.winners.specs.Rows.{searched};
+ghost use Rattle.winners.specs.Surpluses.{surplus_table};
 
+use crate::lists;
 use crate::places::{ALL, SETS};
 
-// What the value of all exceeds the value without each set by, for the sets below `end`. Those whom a set picks are given as a set of
-// clients.
-pub(crate) fn sigma_by(
-    value: u64,
-    discards: [u8; SETS],
-    end: usize,
-    values: &[u64; SETS],
-) -> [u64; SETS]
-    requires { (1 ≤ end) × (end ≤ 64) × ((L : ℕ) → L < end → get_or discards L 0 < 64) }
-    ensures { SigmaFound value values.now discards end result }
+// v, and σ by set number.
+#[derive(Clone, Copy)]
+pub struct Surpluses {
+    pub value: u64,
+    pub sigma: [u64; 64],
+}
+
+// What the value of all exceeds the value without each set of a list of clients by, by the sets' numbers.
+pub(crate) fn sigma_by(clients: &[u8], values: &[u64; SETS]) -> [u64; SETS]
+    requires { RisingList clients.now }
+    ensures { (b : Book) → Sound b → ValuesTo (searched b 0) (amount_of b) (supplies b) 64 values.now
+        → result ≡ surplus_table b clients.now }
 {
-    let mut sigma = [0u64; SETS];
-    let mut set: usize = 1;
-    while set < end {
-        let kept = ALL - discards[set] as usize;
-        sigma[set] = numbers::excess(value, values[kept]);
-        set += 1;
+    let discards = lists::discards(clients);
+    let end = numbers::sets_end(clients.len());
+    let mut sigma = [0; SETS];
+    for set in 1..end {
+        let kept = ALL - usize::from(discards[set]);
+        sigma[set] = values[ALL].saturating_sub(values[kept]);
     }
     sigma
 }

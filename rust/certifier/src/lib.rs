@@ -1,5 +1,4 @@
-//! The proved library, in process. Nothing checks these declarations against its source, so the
-//! tests compare them with what the program prints.
+//! The proved library, in process. The tests hold these declarations to its source, and compare its answers with what the program prints.
 
 /// The greatest value of a book: the number of the refusal, or 0, and the value.
 #[repr(C)]

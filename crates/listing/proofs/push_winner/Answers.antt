@@ -1,7 +1,9 @@
 -- `listing::push_winner` meets its contract. Assumes nothing.
+use Rattle.std.proofs.Common.{◌∙◌}
 use Rattle.listing.proofs.Pushing.{winner_pushed}
 use Rattle.listing.proofs.push_winner.Goals as goal
 
 pub returns : goal.returns
 returns c =
-    winner_pushed _ _ _ _ _ _ _ c.client_of-client.ensures c.push_decimal.ensures c.push_two.ensures
+    let client = c.from-2.ensures ∙ (rw c.from.ensures at c.client_of-client.ensures) in
+    winner_pushed _ _ _ _ _ _ _ client c.push_decimal.ensures (rw c.from-3.ensures at c.push_ending.ensures)

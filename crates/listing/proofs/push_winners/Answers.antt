@@ -1,14 +1,15 @@
--- `listing::push_winners` meets its contract. The loop keeps that the lines of the winners passed are pushed. Assumes nothing.
+-- `listing::push_winners` meets its contract: the loop's next pair stands behind those passed. Assumes nothing.
+use Rattle.std.proofs.Common.{length-append, rules}
+use Rattle.std.proofs.lemmas.Slice.Zip.{zip_turn}
 use Rattle.listing.proofs.Pushing.{winners_none, winners_more}
-use native.Mathlib.Nat.{le_antisymm}
-use borrow.Author.Rules.{rules}
 use Rattle.listing.proofs.push_winners.Goals as goal
 
-pub loop-k-init : goal.loop-k-init
-loop-k-init c = (search rules, winners_none _ _ _ _)
+pub loop-bid-init : goal.loop-bid-init
+loop-bid-init c = winners_none _ _ _ _
 
-pub loop-k-preserved : goal.loop-k-preserved
-loop-k-preserved c = (search rules, winners_more _ _ _ _ _ _ _ c.loop-k.invariant.1 c.push_winner-out.ensures)
-
-pub returns : goal.returns
-returns c = rw (le_antisymm c.loop-k-test.false c.loop-k.invariant.0) c.loop-k.invariant.1
+pub loop-bid-preserved : goal.loop-bid-preserved
+loop-bid-preserved c =
+    let passed = c.loop-bid.yielded in
+    let pair = zip_turn c.args.bids.now c.args.prices.now passed c.into_iter-bid-iterator.result c.loop-bid.bid-iterator c.next.new.self _
+    (search rules) (search rules) c.loop-bid.yielded_by _ c.in-Some.is c.next.ensures.steps in
+    winners_more _ _ _ _ _ _ _ _ _ _ (length-append passed _) (pair.2 0) (pair.3 0) c.loop-bid.invariant c.push_winner.ensures

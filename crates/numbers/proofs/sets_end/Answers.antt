@@ -7,4 +7,4 @@ use Rattle.numbers.proofs.sets_end.Goals as goal
 pub returns : goal.returns
 returns c =
     let w = c.args.w in
-    rw c.smaller.ensures (shifted (min w 6) (min-le_right w 6))
+    rw c.min.ensures (shifted (min w 6) (min-le_right w 6))

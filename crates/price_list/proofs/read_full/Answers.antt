@@ -14,9 +14,9 @@ take_put n k m xs ys within fits =
     ∙ take-append-add (take n xs) after m
     ∙ ap (λ zs. take n xs ++ zs) (take-append-le m ys (post_of n k xs) fits)
 
-pub loop-n-preserved : goal.loop-n-preserved
-loop-n-preserved g c =
-    let n = c.loop-n.n in
+pub loop-len-preserved : goal.loop-len-preserved
+loop-len-preserved g c =
+    let n = c.loop-len.len in
     let fits = c.in-Ok.ensures.bound.0 in
-    let joined = take_put n (length c.loop-n.into - n) c.in-Ok.more c.loop-n.into c.read.new.buf c.loop-n.invariant.0 fits in
-    (search rules, subst (Consumes _ _) (sym joined) (Consumes-trans _ _ _ _ _ c.loop-n.invariant.1 c.in-Ok.ensures.bytes.0))
+    let joined = take_put n (length c.loop-len.into - n) c.in-Ok.more c.loop-len.into c.read.new.buf c.loop-len.invariant.0 fits in
+    (search rules, subst (Consumes _ _) (sym joined) (Consumes-trans _ _ _ _ _ c.loop-len.invariant.1 c.in-Ok.ensures.bytes.0))

@@ -3,10 +3,10 @@ use Rattle.std.proofs.Common.{length, take, ◌-◌, ◌≤◌}
 use Rattle.std.specs.Io.KnownBytes.{Consumes}
 use Rattle.price_list.proofs.read_full.Given as goal
 
-abbrev pub invariant-loop-n : goal.invariant-loop-n
-invariant-loop-n g l =
-    (l.n ≤ length l.into)
-    × Consumes (g.R.Read.remaining l.initial.reader) (g.R.Read.remaining l.reader) (take l.n l.into)
+abbrev pub invariant-loop-len : goal.invariant-loop-len
+invariant-loop-len g l =
+    (l.len ≤ length l.into)
+    × Consumes (g.R.Read.remaining l.initial.reader) (g.R.Read.remaining l.reader) (take l.len l.into)
 
-abbrev pub decreases-loop-n : goal.decreases-loop-n
-decreases-loop-n g l = length l.into - l.n
+abbrev pub decreases-loop-len : goal.decreases-loop-len
+decreases-loop-len g l = length l.into - l.len

@@ -2,5 +2,4 @@
 use Rattle.book.proofs.asked.is_bid_good.Goals as goal
 
 pub returns : goal.returns
-returns c =
-    rw (c.both-2.ensures, c.both.ensures, c.within-paid.ensures, c.within-named.ensures)
+returns c = rw (c.within-named.ensures.tested, c.within-paid.ensures.tested, c.from.ensures)

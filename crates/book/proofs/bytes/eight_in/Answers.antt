@@ -1,7 +1,7 @@
--- `book::bytes::eight_in` meets its contract. Assumes nothing.
-use Rattle.book.proofs.Fields.{field_quarters}
+-- `bytes::eight_in` meets its contract. Assumes nothing.
+use mathlib.Core.Path.{◌∙◌}
+use Rattle.book.proofs.Fields.{field_eight}
 use Rattle.book.proofs.bytes.eight_in.Goals as goal
 
 pub returns : goal.returns
-returns c =
-    rw (c.two_in-a.ensures, c.two_in-b.ensures, c.two_in-c.ensures, c.two_in-d.ensures) (field_quarters _ _)
+returns c = c.from_be_bytes.ensures ∙ field_eight _ _

@@ -1,6 +1,7 @@
--- `book::bytes::four_in` meets its contract. Assumes nothing.
-use Rattle.book.proofs.Fields.{field_join}
+-- `bytes::four_in` meets its contract. Assumes nothing.
+use mathlib.Core.Path.{◌∙◌}
+use Rattle.book.proofs.Fields.{field_four}
 use Rattle.book.proofs.bytes.four_in.Goals as goal
 
 pub returns : goal.returns
-returns c = rw (c.two_in-a.ensures, c.two_in-b.ensures) (field_join _ 2 2 _)
+returns c = c.from_be_bytes.ensures ∙ field_four _ _

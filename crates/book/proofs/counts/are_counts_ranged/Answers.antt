@@ -4,5 +4,4 @@ use Rattle.book.proofs.counts.are_counts_ranged.Goals as goal
 
 pub returns : goal.returns
 unfolding counts_ranged
-returns c =
-    rw (c.both.ensures, c.within-2.ensures, c.both-few.ensures, c.within.ensures)
+returns c = rw (c.within.ensures.tested, c.within-2.ensures.tested)

@@ -4,4 +4,4 @@ use Rattle.book.proofs.counts.is_version_good.Goals as goal
 
 pub returns : goal.returns
 unfolding version_good
-returns c = rw (← c.byte_at-version.ensures) c.both.ensures
+returns c = rw c.byte_at.ensures

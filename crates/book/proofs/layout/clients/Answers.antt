@@ -4,4 +4,4 @@ use Rattle.book.proofs.layout.clients.Goals as goal
 
 pub returns : goal.returns
 unfolding n_of
-returns c = rw (← c.kinds-k.ensures) c.byte_at.ensures
+returns c = rw (← c.kinds.ensures, ← c.from.ensures) c.byte_at.ensures

@@ -1,15 +1,13 @@
--- What the loop of `limit::bids_of` keeps. Assumes nothing.
+-- What the loop of `limit::bids_of` keeps: the count so far, with that of the bids left. Assumes nothing.
 use mathlib.Core.Path.{◌≡◌}
-use Prim.Native.Nat.{◌+◌, ◌-◌, ◌≤◌}
-use lib.ListN.{get_or}
-use Rattle.book.specs.Lists.{row}
+use Prim.Native.Nat.{◌+◌, ◌≤◌}
+use lib.ListN.{drop}
 use Rattle.book.proofs.Tally.{times}
 use Rattle.book.proofs.limit.bids_of.Given as goal
 
-abbrev pub invariant-loop-i : goal.invariant-loop-i
-invariant-loop-i l =
-    (l.i ≤ l.m) × (l.count + times l.who (row (l.m - l.i) l.i (λ j. get_or l.client j 0)) ≡ times l.who
-    (row l.m 0 (λ j. get_or l.client j 0))) × (l.count ≤ l.i)
-
-abbrev pub decreases-loop-i : goal.decreases-loop-i
-decreases-loop-i l = l.m - l.i
+abbrev pub invariant-loop-client : goal.invariant-loop-client
+invariant-loop-client l =
+    record {
+      whole : l.count + times l.who (drop l.client-index l.clients) ≡ times l.who l.clients;
+      most : l.count ≤ l.client-index;
+    }

@@ -1,34 +1,35 @@
--- `limit::few_for_each` meets its contract. The loop goes on while no client passed has too many bids. Assumes nothing.
-use borrow.Author.Rules.{rules}
-use mathlib.Core.Path.{refl, sym, ◌∙◌}
-use Prim.Native.Nat.{◌+◌}
-use native.Mathlib.Nat.{le_antisymm}
+-- `limit::few_for_each` meets its contract. Assumes nothing.
+use mathlib.Core.Path.{◌≡◌, ◌∙◌}
+use native.Mathlib.Omega.{arith}
+use lib.ListN.{take}
 use Rattle.book.specs.Lists.{all_to}
-use Rattle.book.proofs.Tally.{few_named, few_under, few_over, few_next, one_over, few_for_bids}
+use Rattle.book.specs.Book.{clients}
+use Rattle.book.specs.Questions.{few_bids}
+use Rattle.book.specs.Value.{book_of}
+use Rattle.book.proofs.Tally.{few_named, few_under, few_over, few_more, few_passed, one_over, few_held}
 use Rattle.book.proofs.limit.few_for_each.Goals as goal
+use Rattle.book.proofs.limit.few_for_each.Goals.{After-clients-client-end}
 
-pub loop-who-init : goal.loop-who-init
-unfolding all_to
-loop-who-init c = (search rules, refl)
+-- the test of the clients that are named is of the bids
+held : (c : After-clients-client-end) → let v = c.args.book.now in
+    all_to c.clients-client-end.result (few_named (take c.bids.result v.client)) ≡ all_to (clients (book_of v)) (few_bids (book_of v).bids)
+held c = few_held _ _ _ c.bids.ensures c.clients-client-end.ensures (omega arith)
 
-pub returns-then-bids_of-gt8 : goal.returns-then-bids_of-gt8
-returns-then-bids_of-gt8 c k hs xs =
-    let loop = c.loop-who in
-    let m = c.args.m in
-    let clients = c.args.client.now in
-    let over = few_over m clients (loop.who + 1) _ c.bids_of.ensures c.if-bids_of-gt8.true in
-    sym (one_over (few_named m clients) c.args.n (loop.who + 1) (search rules) (search rules) over)
-    ∙ few_for_bids clients k hs xs _ m
+pub returns-then-bids_of-gt-MOST_EACH : goal.returns-then-bids_of-gt-MOST_EACH
+returns-then-bids_of-gt-MOST_EACH c =
+    one_over (few_named _) _ c.loop-client.client (omega arith) (omega arith)
+    (few_over _ _ _ c.bids_of.ensures (omega arith))
+    ∙ held (goal.at.returns-then-bids_of-gt-MOST_EACH c).After-clients-client-end
 
-pub loop-who-preserved : goal.loop-who-preserved
-loop-who-preserved c =
-    let loop = c.loop-who in (
-      search rules,
-      few_next (few_named _ _) loop.who loop.invariant.1 (few_under _ _ (loop.who + 1) _ c.bids_of.ensures c.if-bids_of-gt8.false),
-    )
+pub loop-client-preserved : goal.loop-client-preserved
+loop-client-preserved c =
+    few_more (few_named _) _ c.loop-client.invariant (few_under _ _ _ c.bids_of.ensures c.if-bids_of-gt-MOST_EACH.false)
+
+pub returns-else-bids_of-gt-MOST_EACH : goal.returns-else-bids_of-gt-MOST_EACH
+returns-else-bids_of-gt-MOST_EACH c =
+    few_passed (few_named _) _ _ (omega arith)
+    (few_more (few_named _) _ c.loop-client.invariant (few_under _ _ _ c.bids_of.ensures c.if-bids_of-gt-MOST_EACH.false))
+    ∙ held (goal.at.returns-else-bids_of-gt-MOST_EACH c).After-clients-client-end
 
 pub returns : goal.returns
-returns c k hs xs =
-    let loop = c.loop-who in
-    sym (rw (le_antisymm loop.invariant.0 c.loop-who-test.false) at loop.invariant.1)
-    ∙ few_for_bids c.args.client.now k hs xs _ c.args.m
+returns c = few_passed (few_named _) _ _ (omega arith) c.loop-client.invariant ∙ held (goal.at.returns c).After-clients-client-end

@@ -1,19 +1,12 @@
--- What the loop of `paid::amounts_good` keeps. Assumes nothing.
+-- What the loop of `paid::amounts_good` keeps: the amount of each bid passed is no less than its reserves. Assumes nothing.
 use mathlib.Core.Path.{◌≡◌}
-use mathlib.Core.List.{List}
-use Prim.Native.Nat.{ℕ, ◌+◌}
-use Rattle.book.specs.Lists.{all, row}
+use mathlib.Core.Bool.{true}
+use Prim.Native.Nat.{ℕ, ◌*◌, ◌<◌, min}
 use Rattle.book.specs.Questions.{reserves_met}
-use Rattle.book.specs.Value.{kind_held, bid_held}
-use Rattle.book.specs.Room.{first_of}
+use Rattle.book.specs.Value.{bid_held, book_of}
 use Rattle.book.proofs.paid.amounts_good.Given as goal
 
-abbrev pub invariant-loop-left : goal.invariant-loop-left
-invariant-loop-left l =
-    ((rs ss cs : List ℕ) → l.first ≡ first_of l.k rs
-    → all (reserves_met (row l.k 0 (kind_held ss rs))) (row l.left l.i (bid_held l.k cs l.hours l.amount))
-    ≡ all (reserves_met (row l.k 0 (kind_held ss rs))) (row l.m 0 (bid_held l.k cs l.hours l.amount)))
-    × (l.i + l.left ≡ l.m)
-
-abbrev pub decreases-loop-left : goal.decreases-loop-left
-decreases-loop-left l = l.left
+abbrev pub invariant-loop-pair : goal.invariant-loop-pair
+invariant-loop-pair l =
+    let v = l.book in
+    (j : ℕ) → j < 2 * l.pair → reserves_met (book_of v).kinds (bid_held (min v.k 4) v.client v.hours v.amount j) ≡ true

@@ -1,91 +1,108 @@
 -- `reading::read` meets its contract. Assumes nothing.
-use mathlib.Core.Path.{◌≡◌, sym, ◌∙◌}
-use mathlib.Core.Bool.{true}
+use mathlib.Core.Path.{◌≡◌, refl, sym, ap, ap₂, ◌∙◌}
+use mathlib.Core.Bool.{true, ◌&&◌}
+use mathlib.Core.List.{List}
+use Prim.Native.Nat.{ℕ}
 use native.Mathlib.Omega.{arith}
+use Rattle.std.proofs.lemmas.Result.{err_from_is_err_and}
+use Rattle.sets.specs.Tables.{tabulate}
+use Rattle.book.specs.Lists.{all}
+use Rattle.book.specs.Book.{Kind}
 use Rattle.book.specs.Layout.{book_in}
-use Rattle.book.specs.Questions.{version_good, counts_good, tables_good}
-use Rattle.book.specs.Reading.{arrays_of}
+use Rattle.book.specs.Questions.{version_good, counts_good, kind_good, status_good, tables_good}
+use Rattle.book.specs.Reading.{cap_of, arrays_of}
 use Rattle.book.proofs.Answering.{
-  refused_is,
   refused_by_one,
   refused_by_two,
   refused_by_three,
-  LayoutInside,
-  laid,
-  supplies_are,
-  reserves_are,
-  tables_are,
+  kinds_are,
+  same_arrays,
+  number_is,
+  accepted_is,
 }
+use Rattle.book.proofs.Inside.{laid}
+use Rattle.book.proofs.Places.{kinds_count, clients_count, bids_count}
 use Rattle.book.proofs.reading.read.Goals as goal
-use Rattle.book.proofs.reading.read.Goals.{After-bids-m, After-both, Else-not-is_version_good}
+use Rattle.book.proofs.reading.read.Goals.{Else-not-is_version_good, Else-not-are_counts_good, After-statuses_good, After-fill_bids}
 
 -- past the first test the version is good, and past the second the counts
 one : (c : Else-not-is_version_good) → version_good c.args.input.now ≡ true
 one c = sym c.is_version_good.ensures ∙ c.if-not-is_version_good.false
 
-two : (c : After-both) → counts_good c.args.input.now ≡ true
+two : (c : Else-not-are_counts_good) → counts_good c.args.input.now ≡ true
 two c = sym c.are_counts_good.ensures ∙ c.if-not-are_counts_good.false
 
--- the counts that were read are in range, and statuses and bids stand inside the bytes
-counted : (c : After-bids-m) →
-    LayoutInside c.args.input.now c.kinds-k.result
-    c.clients-n.result c.bids-m.result
-counted c =
-    laid _ _ _ _ (sym c.are_counts_good.ensures ∙ c.if-not-are_counts_good.false) c.kinds-k.ensures c.clients-n.ensures c.bids-m.ensures
+-- question 3, of the arrays and the bytes
+three : (c : After-statuses_good) → counts_good c.args.input.now ≡ true
+    → (c.kinds_good-kinds.result && c.statuses_good.result) ≡ tables_good (book_in c.args.input.now)
+unfolding tables_good
+three c good =
+    let kinds = kinds_are _ _ _ _ good (c.from.ensures ∙ c.kinds-k.ensures) c.supplies-supply.ensures c.reserves-reserve.ensures in
+    ap₂ ◌&&◌ (c.kinds_good-kinds.ensures ∙ ap (λ (ks : List Kind). all kind_good ks) kinds)
+    (c.statuses_good.ensures ∙ ap (λ (ss : List ℕ). all status_good ss) c.statuses-statuses.ensures)
 
 pub returns-then-not-is_version_good : goal.returns-then-not-is_version_good
-returns-then-not-is_version_good c =
-    let no = sym c.is_version_good.ensures ∙ c.if-not-is_version_good.true in
-    rw c.refused.ensures (refused_is _ 1 (refused_by_one _ no) (λ z. omega arith))
+returns-then-not-is_version_good c = record {
+  numbered = refused_by_one _ (sym c.is_version_good.ensures ∙ c.if-not-is_version_good.true);
+  accepted = tt;
+}
 
 pub returns-then-not-are_counts_good : goal.returns-then-not-are_counts_good
-returns-then-not-are_counts_good c =
-    let no = sym c.are_counts_good.ensures ∙ c.if-not-are_counts_good.true in
-    rw c.refused-then-not-are_counts_good.ensures (refused_is _ 2
-    (refused_by_two _ (one (goal.at.returns-then-not-are_counts_good c).Else-not-is_version_good) no) (λ z. omega arith))
+returns-then-not-are_counts_good c = record {
+  numbered =
+      refused_by_two _ (one (goal.at.returns-then-not-are_counts_good c).Else-not-is_version_good)
+      (sym c.are_counts_good.ensures ∙ c.if-not-are_counts_good.true);
+  accepted = tt;
+}
 
 pub kinds_good-kinds-requires : goal.kinds_good-kinds-requires
-kinds_good-kinds-requires c = (counted (goal.at.kinds_good-kinds-requires c).After-bids-m).room.kinds
+kinds_good-kinds-requires c = omega (arith, (laid _ (two (goal.at.kinds_good-kinds-requires c).Else-not-are_counts_good)).room.kinds)
 
-pub statuses_good-requires : goal.statuses_good-requires
-statuses_good-requires c = (counted (goal.at.statuses_good-requires c).After-bids-m).statuses
-
--- the arrays are those of the book
-supplied : (c : After-both) →
-    c.supplies-supply.result ≡ (arrays_of (book_in c.args.input.now)).supply
-supplied c =
-    supplies_are _ _ _ _ (two c) c.kinds-k.ensures c.clients-n.ensures
-    c.bids-m.ensures _ c.supplies-supply.ensures
-
-reserved : (c : After-both) →
-    c.reserves-reserve.result ≡ (arrays_of (book_in c.args.input.now)).reserve
-reserved c =
-    reserves_are _ _ _ _ (two c) c.kinds-k.ensures c.clients-n.ensures
-    c.bids-m.ensures _ c.reserves-reserve.ensures
-
--- question 3, of the arrays and the bytes
-tabled : (c : After-both) →
-    c.both.result ≡ tables_good (book_in c.args.input.now)
-tabled c =
-    tables_are _ _ _ _ (two c) c.kinds-k.ensures c.clients-n.ensures
-    c.bids-m.ensures _ _ (supplied c) (reserved c) _ _ _ c.both.ensures c.kinds_good-kinds.ensures
-    c.statuses_good.ensures
-
-pub returns-then-not-both : goal.returns-then-not-both
-returns-then-not-both c =
-    let no = sym (tabled (goal.at.returns-then-not-both c).After-both) ∙ c.if-not-both.true in
-    rw c.refused-then-not-both.ensures (refused_is _ 3 (refused_by_three _ (one (goal.at.returns-then-not-both c).Else-not-is_version_good)
-    (two (goal.at.returns-then-not-both c).After-both) no) (λ z. omega arith))
-
-pub read_bids-requires : goal.read_bids-requires
-read_bids-requires c =
+pub returns-then-not-kinds-statuses_good : goal.returns-then-not-kinds-statuses_good
+returns-then-not-kinds-statuses_good c =
+    let at = goal.at.returns-then-not-kinds-statuses_good c in
+    let good = two at.Else-not-are_counts_good in
     record {
-      one = one (goal.at.read_bids-requires c).Else-not-is_version_good;
-      two = two (goal.at.read_bids-requires c).After-both;
-      three = sym (tabled (goal.at.read_bids-requires c).After-both) ∙ c.if-not-both.false;
-      kinds = c.kinds-k.ensures;
-      clients = c.clients-n.ensures;
-      bids = c.bids-m.ensures;
-      supplies = supplied (goal.at.read_bids-requires c).After-both;
-      reserves = reserved (goal.at.read_bids-requires c).After-both;
+      numbered =
+          refused_by_three _ (one at.Else-not-is_version_good) good
+          (sym (three at.After-statuses_good good) ∙ c.if-not-kinds-statuses_good.true);
+      accepted = tt;
     }
+
+-- the book that is filled has the arrays of the bytes' book
+held : (c : After-fill_bids) → c.fill_bids.new.book ≡ arrays_of (book_in c.args.input.now)
+unfolding arrays_of
+held c =
+    let bs = c.args.input.now in
+    c.fill_bids.ensures
+    ∙ same_arrays _ (arrays_of (book_in bs))
+    (c.kinds-k.ensures ∙ sym (kinds_count bs))
+    c.supplies-supply.ensures
+    c.reserves-reserve.ensures
+    (c.clients.ensures ∙ sym (clients_count bs))
+    (c.caps.ensures ∙ ap (λ (ss : List ℕ). tabulate 6 (cap_of ss)) c.statuses-statuses.ensures)
+    (c.bids.ensures ∙ sym (bids_count bs))
+    refl
+    refl
+    refl
+
+pub returns-in_err-bids : goal.returns-in_err-bids
+returns-in_err-bids c =
+    let at = goal.at.returns-in_err-bids c in
+    let good = two at.Else-not-are_counts_good in
+    let tables = sym (three at.After-statuses_good good) ∙ c.if-not-kinds-statuses_good.false in
+    let p = err_from_is_err_and c.from_residual.result c.from_residual.ensures.1 in
+    rw (p.1, p.2) (record {
+      numbered = number_is _ (one at.Else-not-is_version_good) good tables _ _ (held at.After-fill_bids) c.in_err-bids.ensures;
+      accepted = tt;
+    })
+
+pub returns : goal.returns
+returns c =
+    let at = goal.at.returns c in
+    let first = one at.Else-not-is_version_good in
+    let good = two at.Else-not-are_counts_good in
+    let tables = sym (three at.After-statuses_good good) ∙ c.if-not-kinds-statuses_good.false in
+    let book = held at.After-fill_bids in
+    let number = number_is _ first good tables _ _ book c.in_ok-bids.ensures in
+    record { numbered = number; accepted = accepted_is _ first good tables (sym number) _ c.length.ensures book }

@@ -1,24 +1,18 @@
--- `tables::kinds_good` meets its contract. The loop keeps the answer of the kinds left, which is that of all. Assumes nothing.
-use borrow.Author.Rules.{rules}
+-- `tables::kinds_good` meets its contract. Assumes nothing.
+use borrow.Author.Count.{below_more}
 use Rattle.book.specs.Questions.{kind_good}
+use Rattle.book.specs.Sound.{no_kind}
 use Rattle.book.specs.Value.{kind_held}
-use Rattle.book.proofs.RowLaws.{row_next, row_none}
-use Rattle.book.proofs.Lists.{all_kept, all_ended, all_passed}
+use Rattle.book.proofs.Lists.{row_passed, row_not}
 use Rattle.book.proofs.tables.kinds_good.Goals as goal
 
-pub returns-then-not-both : goal.returns-then-not-both
+pub returns-then-not-good : goal.returns-then-not-good
 unfolding kind_good kind_held
-returns-then-not-both c =
-    all_ended kind_good _ _ _ _ _ (row_next _ _ _ c.loop-left-test.true) c.both.ensures (c.if-not-both.true)
-    c.loop-left.invariant.0
+returns-then-not-good c = row_not kind_good no_kind _ _ _ c.loop-kind-test.true c.if-not-good.true
 
-pub loop-left-preserved : goal.loop-left-preserved
+pub loop-kind-preserved : goal.loop-kind-preserved
 unfolding kind_good kind_held
-loop-left-preserved c = (
-  all_kept kind_good _ _ _ _ _ (row_next _ _ _ c.loop-left-test.true) c.both.ensures (c.if-not-both.false)
-      c.loop-left.invariant.0,
-  search rules,
-)
+loop-kind-preserved c = below_more _ _ c.loop-kind.invariant c.if-not-good.false
 
 pub returns : goal.returns
-returns c = all_passed kind_good _ _ (row_none _ _ _ (search rules)) c.loop-left.invariant.0
+returns c = row_passed kind_good no_kind _ _ _ c.loop-kind-test.false c.loop-kind.invariant

@@ -1,25 +1,20 @@
--- `tables::statuses_good` meets its contract. The loop keeps the answer of the statuses left, which is that of all. Assumes nothing.
-use borrow.Author.Rules.{rules}
+-- `tables::statuses_good` meets its contract. Assumes nothing.
+use borrow.Author.Count.{below_more}
 use borrow.Author.Tests.{le-leb, lt-leb}
-use mathlib.Core.Path.{refl}
+use native.Mathlib.Omega.{arith}
+use lib.ListN.{get_or}
 use Rattle.book.specs.Questions.{status_good}
-use Rattle.book.proofs.Next.{bytes_next, bytes_none}
-use Rattle.book.proofs.Lists.{all_kept, all_ended, all_passed}
+use Rattle.book.proofs.Lists.{all_passed, one_not}
 use Rattle.book.proofs.tables.statuses_good.Goals as goal
 
-pub returns-then-input-place-gt1 : goal.returns-then-input-place-gt1
+pub returns-then-status-gt-MOST_STATUS : goal.returns-then-status-gt-MOST_STATUS
 unfolding status_good
-returns-then-input-place-gt1 c =
-    all_ended status_good _ _ _ _ _ (bytes_next _ _ _ c.loop-left-test.true) refl (lt-leb _ _ c.if-input-place-gt1.true)
-    c.loop-left.invariant.0
+returns-then-status-gt-MOST_STATUS c =
+    one_not status_good 0 _ _ (omega arith) (lt-leb (get_or c.args.statuses.now c.loop-status.status-index 0) 1 (omega arith))
 
-pub loop-left-preserved : goal.loop-left-preserved
+pub loop-status-preserved : goal.loop-status-preserved
 unfolding status_good
-loop-left-preserved c = (
-  all_kept status_good _ _ _ _ _ (bytes_next _ _ _ c.loop-left-test.true) refl (le-leb _ _ c.if-input-place-gt1.false)
-      c.loop-left.invariant.0,
-  search rules,
-)
+loop-status-preserved c = below_more _ _ c.loop-status.invariant (le-leb _ _ c.if-status-gt-MOST_STATUS.false)
 
 pub returns : goal.returns
-returns c = all_passed status_good _ _ (bytes_none _ _ _ c.loop-left-test.false) c.loop-left.invariant.0
+returns c = all_passed status_good 0 _ _ (omega arith) c.loop-status.invariant

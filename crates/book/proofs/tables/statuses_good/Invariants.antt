@@ -1,14 +1,10 @@
--- What the loop of `tables::statuses_good` keeps. Assumes nothing.
+-- What the loop of `tables::statuses_good` keeps: each status passed is good. Assumes nothing.
 use mathlib.Core.Path.{◌≡◌}
-use Prim.Native.Nat.{◌+◌}
-use Rattle.book.specs.Bytes.{bytes_at}
-use Rattle.book.specs.Lists.{all}
+use mathlib.Core.Bool.{true}
+use Prim.Native.Nat.{ℕ, ◌<◌}
+use lib.ListN.{get_or}
 use Rattle.book.specs.Questions.{status_good}
 use Rattle.book.proofs.tables.statuses_good.Given as goal
 
-abbrev pub invariant-loop-left : goal.invariant-loop-left
-invariant-loop-left l =
-    (all status_good (bytes_at l.left l.place l.input) ≡ all status_good (bytes_at l.n l.at l.input)) × (l.place + l.left ≡ l.at + l.n)
-
-abbrev pub decreases-loop-left : goal.decreases-loop-left
-decreases-loop-left l = l.left
+abbrev pub invariant-loop-status : goal.invariant-loop-status
+invariant-loop-status l = (j : ℕ) → j < l.status-index → status_good (get_or l.statuses j 0) ≡ true

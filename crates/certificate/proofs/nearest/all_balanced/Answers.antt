@@ -1,61 +1,36 @@
--- `nearest::all_balanced` meets its contract. The invariant: `ok` is the test of the winners passed. Assumes nothing.
-use mathlib.Core.Path.{◌≡◌, refl, ◌∙◌}
-use Prim.Native.Nat.{ℕ, ◌*◌, ◌%◌, ◌^◌, ◌≤◌, ◌<◌}
+-- `nearest::all_balanced` meets its contract: no sum is above 10^14. Assumes nothing.
+use Rattle.std.proofs.Common.{◌*◌, ◌%◌, ◌^◌, ◌≤◌, arith}
+use native.Mathlib.Nat.{mul-le-mul}
 use Rattle.sets.specs.Sets.{single}
-use Rattle.pricing.specs.Questions.{every}
+use Rattle.pricing.specs.Ranges.{most_scale}
+use Rattle.certificate.specs.Bounds.{most_sigma}
 use Rattle.certificate.specs.Figures.{at}
-use Rattle.numbers.proofs.Shifts.{shifted, power_most}
-use Rattle.certificate.proofs.Steps.{every_more, every_end}
-use lib.Pow.{pow-lt}
-use Rattle.certificate.proofs.Balance.{claimed, carried, stationary_balance}
-use borrow.Author.Rules.{rules}
-use native.Mathlib.Omega.{arith}
+use Rattle.certificate.proofs.Balance.{claimed, carried, alone_among}
+use Rattle.certificate.proofs.Signed.{signed_magnitude}
+use Rattle.certificate.proofs.Steps.{every_next}
 use Rattle.certificate.proofs.nearest.all_balanced.Goals as goal
+use Rattle.certificate.proofs.nearest.all_balanced.Goals.{In-loop-j}
 
--- the number of the winner's set is 2^j, and one of the sets
-alone : {j w : ℕ} → w ≤ 6 → j < w → (1 * 2 ^ j % 2 ^ 64 ≡ 2 ^ j) × (1 ≤ 1 * 2 ^ j % 2 ^ 64) × (1 * 2 ^ j % 2 ^ 64 ≤ 64)
-alone {j} few l = shifted j (omega arith)
-
-among : {j w : ℕ} → w ≤ 6 → j < w → 1 * 2 ^ j % 2 ^ 64 < 2 ^ w
-among few l = omega (arith, (alone few l).0, pow-lt l)
-
-pub loop-j-init : goal.loop-j-init
-unfolding every
-loop-j-init c = (search rules, refl)
-
-pub overflow_shl-alone : goal.overflow_shl-alone
-overflow_shl-alone c = omega (arith, c.requires.ranges.few)
-
-pub offset_bounds-sigma-alone : goal.offset_bounds-sigma-alone
-offset_bounds-sigma-alone c = omega (arith, (alone c.requires.ranges.few c.loop-j-test.true).2)
-
-pub bounds-sigma-alone : goal.bounds-sigma-alone
-bounds-sigma-alone c =
-    omega (arith, among c.requires.ranges.few c.loop-j-test.true, power_most c.args.f.w c.requires.ranges.few)
-
-pub balanced-here-requires : goal.balanced-here-requires
-balanced-here-requires c =
+-- the bound at hand is in range
+bound_most : (c : In-loop-j) → c.args.f.q * at c.args.sigma (1 * 2 ^ c.loop-j.j % 2 ^ 64) ≤ most_scale * most_sigma
+bound_most c =
     let p = c.requires in
-    let l = c.loop-j-test.true in
-    record {
-      q_most = p.ranges.q_most;
-      σ_most = p.σ_most _ (alone p.ranges.few l).1 (among p.ranges.few l);
-      x_most = p.ranges.x_most _ l;
-      g_most = p.ranges.g_most;
-      u_most = c.held.ensures.1;
-      r_most = p.ranges.r_most _ l;
-      t_most = p.ranges.t_most _ l;
-    }
+    let alone = alone_among _ _ c.loop-j-test.true p.ranges.few in
+    rw alone.0 (mul-le-mul p.ranges.q_most (p.σ_most _ alone.1 alone.2))
+
+pub overflow_mul-claimed : goal.overflow_mul-claimed
+overflow_mul-claimed c = omega (arith, bound_most (goal.at.overflow_mul-claimed c).In-loop-j)
+
+pub overflow_add-claimed : goal.overflow_add-claimed
+overflow_add-claimed c = omega (arith, bound_most (goal.at.overflow_add-claimed c).In-loop-j, c.requires.ranges.t_most c.loop-j.j)
+
+pub overflow_add-claimed-in-loop-j : goal.overflow_add-claimed-in-loop-j
+overflow_add-claimed-in-loop-j c =
+    let bound = bound_most (goal.at.overflow_add-claimed-in-loop-j c).In-loop-j in
+    omega (arith, bound, c.requires.ranges.t_most c.loop-j.j, signed_magnitude c.args.f.g)
 
 pub loop-j-preserved : goal.loop-j-preserved
 unfolding claimed carried single
-loop-j-preserved c = (
-  search rules,
-  every_more _ _ c.both-ok.ensures c.loop-j.invariant.1
-      (c.balanced-here.ensures ∙ rw ((alone c.requires.ranges.few c.loop-j-test.true).0, c.held.ensures.0)),
-)
-
-pub returns : goal.returns
-returns c =
-    let args = c.args in
-    λ ρ. every_end _ c.loop-j.invariant.0 c.loop-j-test.false c.loop-j.invariant.1 ∙ stationary_balance args.f (at args.sigma) ρ
+loop-j-preserved c =
+    let alone = alone_among _ _ c.loop-j-test.true c.requires.ranges.few in
+    rw (alone.0, c.part_below-below.ensures, c.part_above-above.ensures, c.held.ensures.0, every_next, c.loop-j.invariant)

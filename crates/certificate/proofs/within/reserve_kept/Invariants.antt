@@ -1,13 +1,8 @@
--- What the loop of `within::reserve_kept` keeps. Assumes nothing.
-use mathlib.Core.Path.{◌≡◌}
-use Prim.Native.Nat.{◌-◌, ◌*◌, ◌≤◌}
-use lib.Dec.{leb}
+-- What the loop of `within::reserve_kept` keeps: `ok` is the test of the winners passed. Assumes nothing.
+use Rattle.std.proofs.Common.{◌≡◌, ◌*◌, leb}
 use Rattle.pricing.specs.Questions.{every}
 use Rattle.certificate.specs.Figures.{at}
 use Rattle.certificate.proofs.within.reserve_kept.Given as goal
 
 abbrev pub invariant-loop-j : goal.invariant-loop-j
-invariant-loop-j l = (l.j ≤ l.w) × (l.ok ≡ every l.j (λ i. leb (at l.x i) (l.q * at l.rho i)))
-
-abbrev pub decreases-loop-j : goal.decreases-loop-j
-decreases-loop-j l = l.w - l.j
+invariant-loop-j l = l.ok ≡ every l.j (λ i. leb (at l.x i) (l.q * at l.rho i))

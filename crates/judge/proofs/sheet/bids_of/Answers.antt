@@ -9,7 +9,7 @@ use borrow.Author.Rules.{rules}
 use Rattle.judge.proofs.sheet.bids_of.Goals as goal
 
 pub loop-j-init : goal.loop-j-init
-loop-j-init c = (search rules, c.smaller-w.ensures ∙ ap (λ (w : ℕ). min w 6) c.winners_of.ensures, filled_none _ _)
+loop-j-init c = (search rules, c.min-w.ensures ∙ ap (λ (w : ℕ). min w 6) c.winners_of.ensures, filled_none _ _)
 
 pub loop-j-preserved : goal.loop-j-preserved
 loop-j-preserved c = (

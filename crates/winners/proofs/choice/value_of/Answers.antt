@@ -1,30 +1,14 @@
--- `choice::value_of` meets its contract. The loop keeps the sum so far with that of the bids left. Assumes nothing.
-use borrow.Author.Rules.{rules}
-use mathlib.Core.Path.{refl}
-use Rattle.sets.proofs.Prefixes.{prefix_next, prefix_done}
-use Rattle.winners.proofs.Choosing.{worth_next, worth_done}
+-- `choice::value_of` meets its contract. Assumes nothing.
+use mathlib.Core.Path.{◌≡◌, ◌∙◌}
+use Rattle.std.proofs.Common.{rules, sum_by}
 use Rattle.book.specs.Value.{book_of}
 use Rattle.winners.specs.Combinations.{amount_of}
-use native.Mathlib.Nat.{zero-add}
+use Rattle.winners.proofs.Choosing.{worth_sum}
 use Rattle.winners.proofs.choice.value_of.Goals as goal
 
-pub loop-i-init : goal.loop-i-init
-loop-i-init c = (search rules, zero-add _, search rules, search rules)
-
-pub loop-i-preserved : goal.loop-i-preserved
-unfolding amount_of
-loop-i-preserved c =
-    let l = c.loop-i in
-    let a = c.args in (
-      search rules,
-      worth_next (amount_of (book_of a.book)) _ _ _ _ _ _ (prefix_next a.bids a.count (search rules) l.i (search rules))
-          (c.amount_in-amount.ensures _ refl refl) l.invariant.1,
-      search rules,
-      search rules,
-    )
-
 pub returns : goal.returns
+unfolding amount_of
 returns c =
-    let a = c.args in
-    let l = c.loop-i in
-    worth_done _ _ _ _ (prefix_done a.bids a.count (search rules) _ c.loop-i-test.false) l.invariant.1
+    let amount = amount_of (book_of c.args.book.now) in
+    let total : c.sum.result ≡ sum_by amount c.args.bids.now = search rules in
+    total ∙ worth_sum amount c.args.bids.now

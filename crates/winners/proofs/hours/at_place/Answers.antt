@@ -2,5 +2,5 @@
 use Rattle.winners.proofs.HeldBids.{row_of_kinds}
 use Rattle.winners.proofs.hours.at_place.Goals as goal
 
-pub returns : goal.returns
-returns c = record { value = row_of_kinds _ _; bytes = λ p. (c.shared_slice_known-4-1.given p).fits }
+pub returns-clause-value : goal.returns-clause-value
+returns-clause-value c = row_of_kinds _ _

@@ -1,10 +1,9 @@
 -- `hours::rest` meets its contract. Assumes nothing.
 use borrow.Author.Rules.{rules}
-use Rattle.winners.proofs.KindTests.{rest_by_kind}
+use Rattle.winners.proofs.KindTests.{less_is}
 use Rattle.winners.proofs.hours.rest.Goals as goal
 
 pub returns : goal.returns
 returns c =
-    let a = c.args in
-    rest_by_kind 4 a.asked a.left (search rules) (search rules) _ _ _ _
-    c.minus-a.ensures c.minus-b.ensures c.minus-c.ensures c.minus-d.ensures
+    let l = c.loop-kind in
+    less_is c.args.left c.args.asked l.rest (search rules) (λ kind k. l.invariant.1 kind (search rules))

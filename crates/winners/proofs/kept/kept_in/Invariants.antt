@@ -2,7 +2,7 @@
 use mathlib.Core.Path.{◌≡◌}
 use mathlib.Core.Bool.{Bool, ◌&&◌, not}
 use mathlib.Core.List.{List}
-use Prim.Native.Nat.{ℕ, ◌+◌, ◌-◌, ◌≤◌, ◌<◌}
+use Prim.Native.Nat.{ℕ, ◌+◌, ◌-◌, ◌<◌}
 use lib.Dec.{eqb}
 use lib.ListN.{get_or}
 use Rattle.sets.specs.Sets.{has, set_of}
@@ -13,8 +13,5 @@ use Rattle.winners.proofs.kept.kept_in.Given as goal
 abbrev pub stays : (n : ℕ) (caps : List ℕ) (discard j : ℕ) → Bool
 stays n caps discard j = (within 1 (1 + j) n && not (eqb (get_or caps j 0) 0)) && not (has discard j)
 
-abbrev pub invariant-loop-c : goal.invariant-loop-c
-invariant-loop-c l = (l.c ≤ 6) × (l.kept ≡ set_of (6 - l.c) (λ i. stays l.n l.caps l.discard (l.c + 1 + i - 1))) × (l.kept < 64)
-
-abbrev pub decreases-loop-c : goal.decreases-loop-c
-decreases-loop-c l = l.c
+abbrev pub invariant-loop-j : goal.invariant-loop-j
+invariant-loop-j l = (l.kept ≡ set_of (6 - l.j) (λ i. stays l.n l.caps l.discard (l.j + i))) × (l.kept < 64)

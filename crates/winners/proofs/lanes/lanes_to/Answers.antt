@@ -6,9 +6,6 @@ use Rattle.winners.specs.Lanes.{ones}
 use Rattle.winners.proofs.LanesPacked.{ones_shifted}
 use Rattle.winners.proofs.lanes.lanes_to.Goals as goal
 
-pub overflow_sub-result : goal.overflow_sub-result
-overflow_sub-result c = (ones_shifted c.args.k (omega (arith, c.if-k-lt4.true))).0
-
 pub returns-then-k-lt4 : goal.returns-then-k-lt4
 returns-then-k-lt4 c =
     let same : min c.args.k 4 ≡ c.args.k = omega (arith, c.if-k-lt4.true) in

@@ -1,29 +1,22 @@
 -- `lists::is_rising` meets its contract. The loop keeps the answer so far with that of the clients left. Assumes nothing.
-use borrow.Author.Rules.{rules}
-use borrow.Author.Tests.{le-leb, lt-leb}
-use mathlib.Core.Path.{refl}
-use Rattle.sets.proofs.Prefixes.{prefix_next, prefix_done}
-use Rattle.winners.proofs.Rising.{rising_next, rising_done}
+use borrow.Author.Tests.{le-leb}
+use mathlib.Core.Path.{sym, ◌∙◌}
+use mathlib.Core.Bool.{and_assoc, and-true}
+use Rattle.std.proofs.lemmas.List.{drop_more, drop_all}
+use Rattle.winners.specs.Surpluses.{rising_to}
 use Rattle.winners.proofs.lists.is_rising.Goals as goal
 
-pub returns-then-count-gt6 : goal.returns-then-count-gt6
-returns-then-count-gt6 c = rw (lt-leb c.args.count 6 c.if-count-gt6.true)
-
-pub loop-i-init : goal.loop-i-init
-loop-i-init c = (search rules, refl, search rules)
-
-pub loop-i-preserved : goal.loop-i-preserved
-loop-i-preserved c =
-    let l = c.loop-i in
-    let a = c.args in (
-      search rules,
-      rising_next a.n l.last _ _ _ l.ok _ _ _ (prefix_next a.clients a.count (search rules) l.i (search rules))
-          c.both-ok.ensures c.both.ensures l.invariant.1,
-      search rules,
-    )
+pub loop-client-preserved : goal.loop-client-preserved
+unfolding rising_to
+loop-client-preserved c =
+    let l = c.loop-client in
+    rw c.from-next.ensures
+    (and_assoc l.ok _ _ ∙ (rw (drop_more c.args.clients.now l.client-index 0 c.loop-client-test.true) at l.invariant))
 
 pub returns : goal.returns
+unfolding rising_to
 returns c =
-    let a = c.args in
-    rw (le-leb a.count 6 c.if-count-gt6.false)
-    (rising_done _ _ _ _ _ (prefix_done a.clients a.count (search rules) _ c.loop-i-test.false) c.loop-i.invariant.1)
+    let l = c.loop-client in
+    let xs = c.args.clients.now in
+    rw (le-leb _ 6 c.if-clients-gt-CLIENTS.false)
+    (sym (and-true l.ok) ∙ (rw (drop_all l.client-index xs c.loop-client-test.false) at l.invariant))

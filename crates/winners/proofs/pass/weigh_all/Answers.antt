@@ -1,5 +1,4 @@
 -- `pass::weigh_all` meets its contract. Assumes nothing.
-use mathlib.Core.Path.{refl}
 use mathlib.Core.List.{List}
 use Prim.Native.Nat.{ℕ}
 use lib.ListN.{length}
@@ -11,51 +10,35 @@ use Rattle.winners.specs.Combinations.{amount_of}
 use Rattle.winners.specs.Passes.{Passable}
 use Rattle.winners.specs.Rows.{searched}
 use Rattle.winners.specs.Trims.{TrimmedTo}
+use Rattle.winners.specs.declared.row.Row.{Row}
 use Rattle.winners.proofs.HeldBids.{supply_left}
-use Rattle.winners.proofs.LaidOut.{least_of, head_of, leasts_laid, idle_but, laid_out, heads_heaviest, heads_weigh, heads_ask}
+use Rattle.winners.proofs.LaidOut.{least_of, head_of, leasts_laid, idle_but, laid_out, heads_there, heads_heaviest, heads_weigh, heads_ask}
 use Rattle.winners.proofs.SetAfterSet.{values_none}
 use Rattle.winners.proofs.pass.weigh_all.Goals as goal
 use Rattle.winners.proofs.pass.weigh_all.Goals.{After-held_in-held}
 
 pub fill-requires : goal.fill-requires
 fill-requires c =
-    let v = c.args.book in
-    let found = rw c.supply_of.ensures at c.used-used.ensures in
+    let v = c.args.book.now in
+    let found = rw c.supplies.ensures at c.used-used.ensures in
     record { sound = c.requires; left = supply_left (book_of v) (sound_held v c.requires).k_high _ found.0 found.2 }
-
-pub settle_all-requires : goal.settle_all-requires
-settle_all-requires c =
-    let v = c.args.book in
-    record {
-      long = (c.fill.ensures.long, refl);
-      some_rows = λ t a b. let (row, held) = c.fill.ensures.held t a b in
-          record {
-            m = searched (book_of v) c.args.discard;
-            wt = amount_of (book_of v);
-            k = length (book_of v).kinds;
-            n = length (book_of v).bids;
-            row = row;
-            kinds_few = (sound_held v c.requires).k_high;
-            held = held;
-          };
-    }
 
 -- the rows that are weighed
 module _ (c : After-held_in-held) where
   abbrev b : Book
-  b = book_of c.args.book
+  b = book_of c.args.book.now
 
   sound : Sound b
-  sound = sound_held c.args.book c.requires
+  sound = sound_held c.args.book.now c.requires
 
-  abbrev rows : List ℕ
-  rows = c.settle_all.new.rows
+  abbrev rows : List Row
+  rows = c.settle_all-leasts.new.rows
 
   abbrev numbers : List ℕ
-  numbers = c.settle_all.new.leasts
+  numbers = c.settle_all-leasts.result
 
   trims : TrimmedTo (searched b c.args.discard) (amount_of b) (length b.kinds) (length b.bids) 7 rows numbers
-  trims = c.settle_all.ensures _ _ _ _ sound.k_high c.fill.ensures.held
+  trims = c.settle_all-leasts.ensures _ _ _ _ sound.k_high c.fill.ensures
 
   abbrev least : ℕ → List ℕ
   least = least_of b sound c.args.discard rows numbers trims
@@ -73,14 +56,15 @@ module _ (c : After-held_in-held) where
     };
     idle = idle_but b sound c.args.discard rows numbers trims _ c.held_in-held.ensures;
     left =
-        let found = rw c.supply_of.ensures at c.used-used.ensures in
+        let found = rw c.supplies.ensures at c.used-used.ensures in
         supply_left b sound.k_high _ found.0 found.2;
     leasts = leasts_laid b sound c.args.discard rows numbers trims;
     headed = λ t l u on. record {
+      some = heads_there b sound c.args.discard rows numbers trims _ c.held_in-held.ensures t l u on;
       heaviest = heads_heaviest b sound c.args.discard rows numbers trims _ c.held_in-held.ensures t l u on;
       weighs = heads_weigh b sound c.args.discard rows numbers trims _ c.held_in-held.ensures t l u on;
     };
-    heads_asked = heads_ask b sound c.args.discard rows numbers trims _ c.held_in-held.ensures _ c.fill.ensures.held;
+    heads_asked = heads_ask b sound c.args.discard rows numbers trims _ c.held_in-held.ensures _ c.fill.ensures;
   }
 
 pub returns-then-held-eq0 : goal.returns-then-held-eq0

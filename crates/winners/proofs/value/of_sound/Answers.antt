@@ -11,9 +11,7 @@ pub overflow_shr-discard : goal.overflow_shr-discard
 overflow_shr-discard c = omega (arith, (counts_held _ c.requires).n_high)
 
 pub returns-then-discard-book-gt0 : goal.returns-then-discard-book-gt0
-returns-then-discard-book-gt0 c =
-    let yes = c.requires in
-    rw (c.refused.ensures.0, c.refused.ensures.1) (worth_past _ _ _ refl _ (sym (clients_are _ yes)) c.if-discard-book-gt0.true)
+returns-then-discard-book-gt0 c = worth_past _ _ _ refl _ (sym (clients_are _ c.requires)) c.if-discard-book-gt0.true
 
 pub overflow_cast-result : goal.overflow_cast-result
 overflow_cast-result c = omega (arith, all_few _ (sound_held _ c.requires) _ _ c.weigh_all-values.ensures)

@@ -1,6 +1,0 @@
--- `lookups::reserves_of` meets its contract: its book is one with the arrays that it lends. Assumes nothing.
-use mathlib.Core.Path.{refl}
-use Rattle.book.proofs.lookups.reserves_of.Goals as goal
-
-pub returns : goal.returns
-returns c = c.reserves_in.ensures _ refl refl refl refl

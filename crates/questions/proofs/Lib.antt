@@ -1,0 +1,2 @@
+-- Laws that other crates cite too. Assumes nothing.
+pub mod Numbers

@@ -1,0 +1,2 @@
+-- What the contracts of every layer cite. Assumes nothing.
+pub mod Numbers
