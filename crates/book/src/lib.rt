@@ -17,9 +17,11 @@ mod layout;
 mod limit;
 mod paid;
 mod reading;
+mod sound;
 mod tables;
 mod test_of_value;
 mod value;
 
 pub use reading::{Reading, read};
+pub use sound::SoundBook;
 pub use value::Book;

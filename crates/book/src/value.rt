@@ -1,11 +1,12 @@
 // A book as a value: what layer 1 hands out and every layer above takes. Hours of kind j of bid i, both from 0, stand at 4 i + j. A cap of
 // 0 is a withdrawn client's. What any such value means as a book is said by `book_of` (specs/Value.antt); the methods say it of its bids,
 // kinds and clients, by the number of a bid or a client from 1. Where there is none, 0.
-ghost use Rattle.std.specs.Prelude.{◌≡◌, ◌≤◌, true, min, get_or};
+ghost use Rattle.std.specs.Prelude.{◌≡◌, ◌≤◌, true, min, get_or, IfOk};
 ghost use Rattle.questions.specs.Numbers.{number_in};
 ghost use Rattle.book.specs.Lists.{within as within_range, row};
 ghost use Rattle.book.specs.Book.{bid_at, client_of, standing, supplies, reserves_of};
 
+use crate::sound::SoundBook;
 use crate::{counts, kinds, paid, tables, test_of_value};
 use questions::Question;
 
@@ -127,9 +128,11 @@ impl Book {
         self.caps[client - 1] != 0
     }
 
-    // The first of questions 2 to 5 that the book fails. What comes after the first 'no' is not looked at.
-    pub fn sound(&self) -> Result<(), Question>
-        ensures { number_in result ≡ sound_number self.now }
+    // The book with the knowledge that it is sound, or the first of questions 2 to 5 that it fails. What comes after the first 'no' is not
+    // looked at.
+    pub fn sound(&self) -> Result<SoundBook<'_>, Question>
+        ensures number { number_in result ≡ sound_number self.now }
+        ensures book { IfOk result (λ sound. sound.book.now ≡ self.now) }
     {
         let k = usize::from(self.k);
         if !counts::are_counts_ranged(k, usize::from(self.n), usize::from(self.m)) {
@@ -138,6 +141,7 @@ impl Book {
         if !tables::kinds_good(self.kinds(), self.supply, self.reserve) {
             return Err(Question::Tables);
         }
-        test_of_value::bids(self)
+        test_of_value::bids(self)?;
+        Ok(SoundBook { book: self })
     }
 }

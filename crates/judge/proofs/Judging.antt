@@ -1,5 +1,5 @@
 -- Whatever answers with the definitions' answer keeps every promise (judgement), and what is answered to a call by where it is refused.
--- Cited by the proofs of `answer_over`, `judge_sheet` and `judge_over`. Assumes nothing.
+-- Cited by the laws of the sheet's parts and by the proofs of src/lib.rt. Assumes nothing.
 use mathlib.Core.Path.{◌≡◌, sym, ap, ◌∙◌}
 use mathlib.Core.Bool.{true, false}
 use mathlib.Core.Logic.{inl, inr, ⊎_elim}

@@ -1,5 +1,5 @@
 -- Questions 10 to 15 over arrays are those of the sheet that they hold: the numbers that the checks answer, for bounds of the book's
--- winners. Cited by the proof of src/chain.rt's `certificate_number`. Assumes nothing.
+-- winners. Cited by the proof of src/chain.rt's `test_certificate`. Assumes nothing.
 use mathlib.Core.Path.{◌≡◌, refl, sym, ap, fun_ext, ◌∙◌}
 use mathlib.Core.Bool.{Bool, cond}
 use mathlib.Core.List.{List}

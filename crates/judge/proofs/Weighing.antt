@@ -60,17 +60,17 @@ module _ (v : Arrays) (bids : List ℕ) (f : Figures) where
     winners = length-take-le f.w bids (omega (arith, few, long))
 
     -- questions 8 and 9
-    number_is : (n : ℕ) → n ≡ weigh_refusal (sound_number v) b h.bids → n ≡ cond (winners_good b h.bids) (cond (value_good b h.bids) 0 9) 8
+    number_is : (n : ℕ) → n ≡ weigh_refusal 0 b h.bids → n ≡ cond (winners_good b h.bids) (cond (value_good b h.bids) 0 9) 8
     unfolding weigh_refusal choice_good winners_good value_good
-    number_is n e = e ∙ rw (sound, le-leb (length h.bids) 6 (omega (arith, few, winners))) refl
+    number_is n e = e ∙ rw (le-leb (length h.bids) 6 (omega (arith, few, winners))) refl
 
-    pub weighed_no : (q : Question) → WeighedIs (sound_number v) b h.bids (Err q) → number_of q ≡ judged b h
+    pub weighed_no : (q : Question) → WeighedIs 0 b h.bids (Err q) → number_of q ≡ judged b h
     weighed_no q k =
         two_no (winners_good b h.bids) (value_good b h.bids) (number_of q) (certificate_judged b h) (number_is _ k.numbered)
         (number_range q).0
         ∙ judged_winners b h ranged
 
-    module _ (r : Weighed) (k : WeighedIs (sound_number v) b h.bids (Ok r)) where
+    module _ (r : Weighed) (k : WeighedIs 0 b h.bids (Ok r)) where
       pub weighed_yes : certificate_judged b h ≡ judged b h
       weighed_yes =
           two_yes (winners_good b h.bids) (value_good b h.bids) 0 (certificate_judged b h) (number_is 0 k.numbered) (omega arith)

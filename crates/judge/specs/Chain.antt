@@ -1,5 +1,5 @@
--- What the private functions that put questions 7 to 15 ask, and the answer that a result stands for. No public function asks anything. Assumes nothing: these are
--- definitions.
+-- What the private functions that put questions 7 to 15 ask, and the answer that a result stands for. No public function asks anything.
+-- Assumes nothing: these are definitions.
 use Rattle.std.specs.Prelude.{◌≡◌, true, List, ℕ, ◌^◌, ◌<◌, get_or, take, Result, Ok, Err}
 use Rattle.questions.specs.declared.Question.{Question}
 use Rattle.questions.specs.Numbers.{number_of}

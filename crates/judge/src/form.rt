@@ -6,6 +6,7 @@ ghost use Rattle.judge.specs.Reading.{FormIs};
 use book::bytes;
 
 // The number of winners, at place 3.
+#[tactic(auto, unfolding(demands::specs::Sheet::sheet_w))]
 pub(crate) fn winners_of(part: &[u8]) -> usize
     ensures { result ≡ sheet_w part.now }
 {
@@ -13,6 +14,7 @@ pub(crate) fn winners_of(part: &[u8]) -> usize
 }
 
 // The length of a sheet with w winners: 20 bytes, 29 for each winner and 12 for each non-empty set.
+#[tactic(auto, unfolding(demands::specs::Sheet::sheet_formula))]
 fn length_of(w: usize) -> usize
     requires { w ≤ 6 }
     ensures { result ≡ sheet_formula w }

@@ -38,6 +38,7 @@ pub(crate) fn reserves_of(book: &Book, sheet: &SheetReading) -> [u64; 6]
 }
 
 // A refusal has the question's number and zeros.
+#[tactic(auto, unfolding(demands::specs::Answer::refusal))]
 pub(crate) fn refused(question: Question) -> Prices
     ensures { answer_in result ≡ refusal (number_of question) }
 {
@@ -50,6 +51,7 @@ pub(crate) fn refused(question: Question) -> Prices
 }
 
 // What each winner pays over q, 0 past the last.
+#[tactic(auto, using(crate::proofs::WinnersPay::prices_filled), unfolding(winners::specs::Combinations::amount_of))]
 fn prices_of(book: &Book, sheet: &SheetReading) -> [u64; 6]
     requires { Ranges (certificate sheet.now.figures) }
     ensures { result ≡ tabulate 6 (price (book_of book.now) (sheet_held sheet.now.bids sheet.now.figures)) }

@@ -22,6 +22,7 @@ pub struct SheetReading {
 }
 
 // The winners' bid numbers, 0 past the last: of more than six, the first six. They stand from place 4 on.
+#[tactic(auto, using(crate::proofs::BidNumbers::bids_filled))]
 pub fn bids_of(part: &[u8]) -> [u8; 6]
     ensures { result ≡ tabulate 6 (at (sheet_in part.now).bids) }
 {

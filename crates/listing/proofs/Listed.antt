@@ -1,5 +1,5 @@
 -- The printed text by the number of its input; that it always fits (listing_most); and that what was pushed for an answer is that text.
--- Cited by the proof of `price_list`, by the law on cut inputs and by the program. Assumes nothing.
+-- Cited by the proof of `price_list`, and by the law on cut inputs. Assumes nothing.
 use mathlib.Core.Path.{◌≡◌, sym, ap, ◌∙◌}
 use mathlib.Core.List.{List, [], ◌∷◌, ◌++◌}
 use Prim.Native.Nat.{ℕ, ◌-◌, ◌≤◌, ◌<◌}

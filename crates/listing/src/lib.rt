@@ -11,7 +11,7 @@ ghost use Rattle.text.specs.Text.{blank, pushes};
 ghost use Rattle.listing.specs.Listing.{ending, line, winner_line, winner_lines, refused_text, Listed};
 ghost use Rattle.listing.specs.Readings.{ListedRead};
 
-use book::Book;
+use book::{Book, SoundBook};
 use judge::sheet;
 use text::Text;
 
@@ -73,7 +73,10 @@ pub fn price_list(input: &[u8]) -> Text
         Err(question) => return refused(question.into()),
     };
     let part = &input[usize::from(reading.length)..];
-    let answer = judge::judge_over(&reading.book, part);
+    let sound = SoundBook {
+        book: &reading.book,
+    };
+    let answer = judge::judge_sound(sound, part);
     if 0 < answer.number {
         return refused(answer.number);
     }

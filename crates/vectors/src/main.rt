@@ -12,7 +12,7 @@
 // Operations over a book that is a value (over_value.rt) take their numbers, then changes of the value (change.rt), then the book's bytes:
 //   S        the number of the first question that it fails
 //   c a r h  of a bid, its client, amount, reserves and hours; t whether a client stands; s the supplies
-//   l        of a bid, its client, amount and reserves, with the book's arrays lent
+//   l        of a bid, its client, amount and reserves in one answer
 //   g        the greatest value without the clients of a discard byte
 //   u        the greatest value, and σ of the sets of a list of clients: how many, then six places
 //   W        weighing a list of bids: how many, then six places

@@ -15,7 +15,7 @@ pub(crate) fn alone(out: &impl Print, letter: u8, s: &[u8]) -> io::Result<()> {
 }
 
 // Of a bid, its client, amount and reserves.
-fn print_lent(out: &impl Print, book: &Book, bid: usize) -> io::Result<()> {
+fn print_bid(out: &impl Print, book: &Book, bid: usize) -> io::Result<()> {
     number(out, book.client_of(bid))?;
     number(out, book.amount_of(bid))?;
     number(out, book.reserves_of(bid))
@@ -29,7 +29,7 @@ pub(crate) fn by_number(out: &impl Print, letter: u8, s: &[u8]) -> io::Result<()
         b'c' => number(out, book.client_of(place)),
         b'a' => number(out, book.amount_of(place)),
         b'r' => number(out, book.reserves_of(place)),
-        b'l' => print_lent(out, &book, place),
+        b'l' => print_bid(out, &book, place),
         b'h' => numbers(out, &book.hours_of(place)),
         _ => number(out, u8::from(book.is_standing(place))),
     }

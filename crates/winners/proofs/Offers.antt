@@ -1,5 +1,4 @@
--- The offers of a row, by the room of the row. Cited by the proofs of src/row.rt, src/full.rt and src/pass.rt, and by Trimming.antt.
--- Assumes nothing.
+-- The offers of a row, by the room of the row. Cited by the proofs of src/row.rt and src/full.rt. Assumes nothing.
 use mathlib.Core.Path.{◌≡◌, ap, ◌∙◌}
 use mathlib.Core.List.{List}
 use Prim.Native.Nat.{ℕ, ◌≤◌, ◌<◌}

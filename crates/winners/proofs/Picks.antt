@@ -1,5 +1,5 @@
--- Which clients a set picks from a list, in a loop's steps, and the set of clients that says the same. Cited by the proofs of src/lists.rt
--- and src/table.rt. Assumes nothing.
+-- Which clients a set picks from a list, in a loop's steps, and the set of clients that says the same. Cited by the proof of src/lists.rt
+-- and by laws of lists of clients. Assumes nothing.
 use mathlib.Core.Path.{◌≡◌, refl, sym, ap, fun_ext, ◌∙◌}
 use mathlib.Core.Bool.{Bool, true, false, ◌&&◌, ◌||◌, and-false, or-true, or-false, false≢true, and-eq-true_iff}
 use mathlib.Core.List.{List, [], ◌∷◌}

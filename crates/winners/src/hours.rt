@@ -1,4 +1,4 @@
-// The hours of a bid against the hours left: four numbers for up to four kinds, of which those past the last are 0.
+// The hours of a bid against the hours left, four numbers for up to four kinds; and those of the bid at a place.
 ghost use Rattle.std.specs.Prelude.{◌≡◌, ◌*◌, ◌<◌, length, get_or};
 ghost use Rattle.book.specs.Lists.{row};
 ghost use Rattle.market.specs.Market.{fits, less};

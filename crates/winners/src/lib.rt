@@ -28,4 +28,4 @@ mod weighing;
 pub use table::{SigmaTable, surpluses, surpluses_of};
 pub use value::{Worth, greatest_of, greatest_value};
 pub use values::Surpluses;
-pub use weighing::{Weighed, weigh};
+pub use weighing::{Weighed, weigh, weigh_sound};

@@ -4,7 +4,7 @@
 ghost use Rattle.std.specs.Prelude.{◌≡◌, ◌+◌, ◌<◌, ltb, length};
 ghost use Rattle.sets.specs.Sets.{set_of};
 ghost use Rattle.book.specs.Book.{supplies};
-ghost use Rattle.book.specs.Value.{book_of, sound_number};
+ghost use Rattle.book.specs.Value.{book_of};
 ghost use Rattle.winners.specs.Combinations.{amount_of};
 ghost use Rattle.winners.specs.Passes.{FloorPast, ValuesTo, Weighable, SetWeighed, Passable, SetsWeighed};
 ghost use Rattle.winners.specs.Rows.{row_of, searched};
@@ -13,7 +13,7 @@ use crate::full::Search;
 use crate::places::{ROWS, SETS};
 use crate::row::Row;
 use crate::{client_sets, lanes, rows, taken, trims};
-use book::Book;
+use book::SoundBook;
 
 // A set's floor: one client after another is left out.
 fn floor_of(set: usize, values: &[u64; SETS]) -> u64
@@ -90,13 +90,12 @@ fn weigh_sets(held: usize, used: u64, rows: &[Row; ROWS], leasts: &[u64; ROWS]) 
 
 // The greatest value of every set of clients of a sound book, of which some are discarded: these add nothing to any set. Where nobody has
 // a bid it is 0.
-pub(crate) fn weigh_all(book: &Book, discard: u8) -> [u64; SETS]
-    requires { sound_number book.now ≡ 0 }
-    ensures { ValuesTo (searched (book_of book.now) discard) (amount_of (book_of book.now)) (supplies (book_of book.now)) 64 result }
+pub(crate) fn weigh_all(sound: SoundBook, discard: u8) -> [u64; SETS]
+    ensures { let b = book_of sound.entry.book.now in ValuesTo (searched b discard) (amount_of b) (supplies b) 64 result }
 {
-    let used = lanes::used(book.supplies());
+    let used = lanes::used(sound.book.supplies());
     let mut rows = [Row::empty(); ROWS];
-    rows::fill(book, discard, used, &mut rows);
+    rows::fill(sound, discard, used, &mut rows);
     let leasts = trims::settle_all(&mut rows);
     let held = held_in(&rows);
     if held == 0 {

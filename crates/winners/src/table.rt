@@ -8,7 +8,7 @@ ghost use Rattle.winners.specs.Surpluses.{no_surpluses, SurplusesAre, AllSurplus
 use crate::places::ALL;
 use crate::values::Surpluses;
 use crate::{lists, pass, values};
-use book::Book;
+use book::{Book, SoundBook};
 use questions::Question;
 
 // The answer as callers in C have it: 0 and the surpluses, or the number of the question that is answered no, and zeros.
@@ -45,15 +45,14 @@ impl From<Result<Surpluses, Question>> for SigmaTable {
 }
 
 // Of a sound book.
-fn of_sound(book: &Book, clients: &[u8]) -> Result<Surpluses, Question>
-    requires { sound_number book.now ≡ 0 }
+fn of_sound(sound: SoundBook, clients: &[u8]) -> Result<Surpluses, Question>
     ensures { let found = result_unwrap_or result no_surpluses in
-        SurplusesAre 0 (book_of book.now) clients.now (number_in result) found.value found.sigma }
+        SurplusesAre 0 (book_of sound.entry.book.now) clients.now (number_in result) found.value found.sigma }
 {
-    if !lists::is_rising(clients, usize::from(book.n)) {
+    if !lists::is_rising(clients, usize::from(sound.book.n)) {
         return Err(Question::Clients);
     }
-    let values = pass::weigh_all(book, 0);
+    let values = pass::weigh_all(sound, 0);
     let sigma = values::sigma_by(clients, &values);
     Ok(Surpluses {
         value: values[ALL],
@@ -66,8 +65,7 @@ pub fn surpluses_of(book: &Book, clients: &[u8]) -> Result<Surpluses, Question>
     ensures { let found = result_unwrap_or result no_surpluses in
         SurplusesAre (sound_number book.now) (book_of book.now) clients.now (number_in result) found.value found.sigma }
 {
-    book.sound()?;
-    of_sound(book, clients)
+    of_sound(book.sound()?, clients)
 }
 
 // Of all clients of the book that bytes hold, whatever follows it. What was read is sound.
@@ -78,7 +76,10 @@ fn surpluses_in(book: &[u8]) -> Result<Surpluses, Question>
     let reading = book::read(book)?;
     let n = usize::from(reading.book.n);
     let clients = [1, 2, 3, 4, 5, 6];
-    of_sound(&reading.book, &clients[..n])
+    let sound = SoundBook {
+        book: &reading.book,
+    };
+    of_sound(sound, &clients[..n])
 }
 
 // The same as callers in C have it.

@@ -9,7 +9,7 @@ ghost use Rattle.winners.specs.Worth.{WorthIs};
 
 use crate::pass;
 use crate::places::ALL;
-use book::Book;
+use book::{Book, SoundBook};
 use questions::Question;
 
 // The answer as callers in C have it: 0 and the value, or the number of the question that is answered no, and no value.
@@ -35,14 +35,13 @@ impl From<Result<u32, Question>> for Worth {
 }
 
 // Of a sound book.
-fn of_sound(book: &Book, discard: u8) -> Result<u32, Question>
-    requires { sound_number book.now ≡ 0 }
-    ensures { WorthIs 0 (book_of book.now) discard (number_in result) (result_unwrap_or result 0) }
+fn of_sound(sound: SoundBook, discard: u8) -> Result<u32, Question>
+    ensures { WorthIs 0 (book_of sound.entry.book.now) discard (number_in result) (result_unwrap_or result 0) }
 {
-    if 0 < (discard >> book.n) {
+    if 0 < (discard >> sound.book.n) {
         return Err(Question::Clients);
     }
-    let values = pass::weigh_all(book, discard);
+    let values = pass::weigh_all(sound, discard);
     Ok(values[ALL] as u32)
 }
 
@@ -50,8 +49,7 @@ fn of_sound(book: &Book, discard: u8) -> Result<u32, Question>
 pub fn greatest_of(book: &Book, discard: u8) -> Result<u32, Question>
     ensures { WorthIs (sound_number book.now) (book_of book.now) discard (number_in result) (result_unwrap_or result 0) }
 {
-    book.sound()?;
-    of_sound(book, discard)
+    of_sound(book.sound()?, discard)
 }
 
 // Of the book that bytes hold, whatever follows it. What was read is sound.
@@ -59,7 +57,10 @@ fn greatest_in(book: &[u8], discard: u8) -> Result<u32, Question>
     ensures { WorthIs (book_refusal book.now) (book_in book.now) discard (number_in result) (result_unwrap_or result 0) }
 {
     let reading = book::read(book)?;
-    of_sound(&reading.book, discard)
+    let sound = SoundBook {
+        book: &reading.book,
+    };
+    of_sound(sound, discard)
 }
 
 // The same as callers in C have it.

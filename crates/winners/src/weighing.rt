@@ -5,7 +5,7 @@ ghost use Rattle.winners.specs.Weighed.{WeighedIs};
 
 use crate::places::ALL;
 use crate::{choice, pass, values};
-use book::Book;
+use book::{Book, SoundBook};
 use questions::Question;
 
 // v, the winners' clients with 0 past the last, and σ by set number.
@@ -16,16 +16,16 @@ pub struct Weighed {
     pub sigma: [u64; 64],
 }
 
-// The bids of a book that is a value.
-pub fn weigh(book: &Book, bids: &[u8]) -> Result<Weighed, Question>
-    ensures { WeighedIs (sound_number book.now) (book_of book.now) bids.now result }
+// The bids of a sound book.
+pub fn weigh_sound(sound: SoundBook, bids: &[u8]) -> Result<Weighed, Question>
+    ensures { WeighedIs 0 (book_of sound.entry.book.now) bids.now result }
 {
-    book.sound()?;
+    let book = sound.book;
     if !choice::is_choice(book, bids) {
         return Err(Question::Combination);
     }
     let worth = choice::value_of(book, bids);
-    let values = pass::weigh_all(book, 0);
+    let values = pass::weigh_all(sound, 0);
     let value = values[ALL];
     if worth != value {
         return Err(Question::Value);
@@ -37,4 +37,11 @@ pub fn weigh(book: &Book, bids: &[u8]) -> Result<Weighed, Question>
         clients,
         sigma,
     })
+}
+
+// The same of a book that is a value.
+pub fn weigh(book: &Book, bids: &[u8]) -> Result<Weighed, Question>
+    ensures { WeighedIs (sound_number book.now) (book_of book.now) bids.now result }
+{
+    weigh_sound(book.sound()?, bids)
 }

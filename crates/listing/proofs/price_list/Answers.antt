@@ -9,7 +9,7 @@ use Rattle.judge.proofs.Readings.{read_call}
 use Rattle.listing.specs.Listing.{accepted_word}
 use Rattle.listing.proofs.Listed.{refused_listed, winners_few, accepted_listed}
 use Rattle.listing.proofs.price_list.Goals as goal
-use Rattle.listing.proofs.price_list.Goals.{After-judge_over-answer}
+use Rattle.listing.proofs.price_list.Goals.{After-judge_sound-answer}
 
 pub returns-in-Err : goal.returns-in-Err
 unfolding refusal
@@ -19,14 +19,14 @@ returns-in-Err c =
     refused_listed _ (refusal _) answer _ positive (rw c.into.ensures at c.refused.ensures)
 
 -- the answer over the book that was read is that to the input
-answer : (c : After-judge_over-answer) → answer_in c.judge_over-answer.result ≡ answer_of (call_in c.args.input.now)
+answer : (c : After-judge_sound-answer) → answer_in c.judge_sound-answer.result ≡ answer_of (call_in c.args.input.now)
 answer c =
-    (rw c.from.ensures at c.judge_over-answer.ensures.fields)
+    (rw c.from.ensures at c.judge_sound-answer.ensures.fields)
     ∙ ap answer_of (read_call _ _ c.in-Ok.ensures)
 
 pub returns-then-answer-gt0 : goal.returns-then-answer-gt0
 returns-then-answer-gt0 c =
-    refused_listed _ _ (answer (goal.at.returns-then-answer-gt0 c).After-judge_over-answer) _ c.if-answer-gt0.true
+    refused_listed _ _ (answer (goal.at.returns-then-answer-gt0 c).After-judge_sound-answer) _ c.if-answer-gt0.true
     c.refused-then-answer-gt0.ensures
 
 -- the first w of six bids are w
@@ -35,17 +35,17 @@ first_of w bids few long = let within : w ≤ length bids = omega arith in (with
 
 pub slice_bounds-bids-end : goal.slice_bounds-bids-end
 slice_bounds-bids-end c =
-    let few = winners_few _ _ (answer (goal.at.slice_bounds-bids-end c).After-judge_over-answer) c.if-answer-gt0.false in
+    let few = winners_few _ _ (answer (goal.at.slice_bounds-bids-end c).After-judge_sound-answer) c.if-answer-gt0.false in
     (first_of _ _ few (search rules)).0
 
 pub slice_bounds-winning-end : goal.slice_bounds-winning-end
 slice_bounds-winning-end c =
-    let few = winners_few _ _ (answer (goal.at.slice_bounds-winning-end c).After-judge_over-answer) c.if-answer-gt0.false in
+    let few = winners_few _ _ (answer (goal.at.slice_bounds-winning-end c).After-judge_sound-answer) c.if-answer-gt0.false in
     (first_of _ _ few (search rules)).1
 
 pub returns : goal.returns
 unfolding accepted_word
 returns c =
-    accepted_listed _ _ (answer (goal.at.returns c).After-judge_over-answer) c.if-answer-gt0.false _ _ _ c.in-Ok.ensures
+    accepted_listed _ _ (answer (goal.at.returns c).After-judge_sound-answer) c.if-answer-gt0.false _ _ _ c.in-Ok.ensures
     c.from.ensures c.bids_of-bids.ensures (search rules) _ _
     (rw (c.from-2.ensures, c.from-3.ensures) at c.first_line-list.ensures) c.push_winners.ensures

@@ -1,13 +1,10 @@
 -- `prices::reserves_of` meets its contract. The loop keeps ρ of the winners passed. Assumes nothing.
-use Rattle.std.proofs.Common.{rules, refl, ◌∙◌, le_antisymm, arith}
-use Rattle.sets.proofs.Filled.{filled_none, filled_next}
+use Rattle.std.proofs.Common.{refl, ◌∙◌, le_antisymm, arith}
+use Rattle.sets.proofs.Filled.{filled_next}
 use Rattle.demands.specs.Winners.{win, reserves, rho}
 use Rattle.winners.specs.Combinations.{amount_of}
 use Rattle.judge.proofs.WinnersPay.{rho_filled}
 use Rattle.judge.proofs.prices.reserves_of.Goals as goal
-
-pub loop-j-init : goal.loop-j-init
-loop-j-init c = (search rules, filled_none 6 _)
 
 pub loop-j-preserved : goal.loop-j-preserved
 unfolding rho win reserves amount_of

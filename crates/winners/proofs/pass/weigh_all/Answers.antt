@@ -19,17 +19,17 @@ use Rattle.winners.proofs.pass.weigh_all.Goals.{After-held_in-held}
 
 pub fill-requires : goal.fill-requires
 fill-requires c =
-    let v = c.args.book.now in
+    let v = c.args.sound.book.now in
     let found = rw c.supplies.ensures at c.used-used.ensures in
-    record { sound = c.requires; left = supply_left (book_of v) (sound_held v c.requires).k_high _ found.0 found.2 }
+    supply_left (book_of v) (sound_held v c.args.sound.sound).k_high _ found.0 found.2
 
 -- the rows that are weighed
 module _ (c : After-held_in-held) where
   abbrev b : Book
-  b = book_of c.args.book.now
+  b = book_of c.args.sound.book.now
 
   sound : Sound b
-  sound = sound_held c.args.book.now c.requires
+  sound = sound_held c.args.sound.book.now c.args.sound.sound
 
   abbrev rows : List Row
   rows = c.settle_all-leasts.new.rows

@@ -22,22 +22,22 @@ tested : (v : Arrays) → sound_number v ≡ 0 → (cs : List ℕ) (n : ℕ) (t 
 unfolding list_good
 tested v sound cs n t en et = rw (clients_are v sound, ← en) et
 
-good : (c : Else-not-is_rising) → list_good (book_of c.args.book.now) c.args.clients.now ≡ true
-good c = sym (tested _ c.requires _ _ _ c.from.ensures c.is_rising.ensures) ∙ c.if-not-is_rising.false
+good : (c : Else-not-is_rising) → list_good (book_of c.args.sound.book.now) c.args.clients.now ≡ true
+good c = sym (tested _ c.args.sound.sound _ _ _ c.from.ensures c.is_rising.ensures) ∙ c.if-not-is_rising.false
 
 listed : (c : Else-not-is_rising) → RisingList c.args.clients.now
-listed c = good_listed _ (sound_held _ c.requires) _ (good c)
+listed c = good_listed _ (sound_held _ c.args.sound.sound) _ (good c)
 
 pub returns-then-not-is_rising : goal.returns-then-not-is_rising
 returns-then-not-is_rising c =
-    surpluses_none _ _ _ refl (sym (tested _ c.requires _ _ _ c.from.ensures c.is_rising.ensures) ∙ c.if-not-is_rising.true)
+    surpluses_none _ _ _ refl (sym (tested _ c.args.sound.sound _ _ _ c.from.ensures c.is_rising.ensures) ∙ c.if-not-is_rising.true)
 
 pub sigma_by-sigma-requires : goal.sigma_by-sigma-requires
 sigma_by-sigma-requires c = listed (goal.at.sigma_by-sigma-requires c).Else-not-is_rising
 
 pub returns : goal.returns
 returns c =
-    let sound = sound_held _ c.requires in
+    let sound = sound_held _ c.args.sound.sound in
     let here = (goal.at.returns c).Else-not-is_rising in
     let values = c.weigh_all-values.ensures in
     surpluses_found _ _ _ refl (held_shaped _) (listed here).few (good here) _ _ (all_value _ sound 0 _ values)

@@ -22,9 +22,6 @@ pub slice_bounds-of_sound-end : goal.slice_bounds-of_sound-end
 slice_bounds-of_sound-end c =
     sym (length-take-le c.from-n.result _ (omega (arith, c.from-n.ensures, (counts_held _ c.in_ok-reading.ensures.accepted.sound).n_high)))
 
-pub of_sound-requires : goal.of_sound-requires
-of_sound-requires c = c.in_ok-reading.ensures.accepted.sound
-
 pub returns : goal.returns
 returns c =
     let read = c.in_ok-reading.ensures in

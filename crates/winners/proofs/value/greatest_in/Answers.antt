@@ -9,9 +9,6 @@ returns-in_err-reading c =
     let p = err_from_is_err_and c.from_residual.result c.from_residual.ensures.1 in
     rw (p.1, p.2) (worth_refused _ _ _ _ c.in_err-reading.ensures.numbered)
 
-pub of_sound-requires : goal.of_sound-requires
-of_sound-requires c = c.in_ok-reading.ensures.accepted.sound
-
 pub returns : goal.returns
 returns c =
     let read = c.in_ok-reading.ensures in
