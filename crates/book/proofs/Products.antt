@@ -1,5 +1,5 @@
--- How large products of a book's small numbers are: what the overflow of the code's multiplications asks. Cited by the proofs of src/ and
--- by the layers above. Assumes nothing.
+-- How large products of a book's small numbers are: what the overflow of the code's multiplications asks. Cited by Refusals
+-- and by the layers above. Assumes nothing.
 use Prim.Native.Nat.{ℕ, ◌*◌, ◌≤◌}
 use native.Mathlib.Nat.{mul-le-mul}
 

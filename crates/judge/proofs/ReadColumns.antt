@@ -43,7 +43,9 @@ column_full n first end f i xs low high stop h k =
       | yes l ↦ h.below k (omega arith) ∙ before_place first f k l ∙ sym (rw (lt-leb first k l) refl)
       | no g ↦
           elim (dec_lt k end) [
-            | yes l ↦ h.below k (omega arith) ∙ at_place first f k (omega arith) ∙ sym (rw (le-leb first k (omega arith), lt-ltb k end l) refl)
+            | yes l ↦
+                h.below k (omega arith) ∙ at_place first f k (omega arith)
+                ∙ sym (rw (le-leb first k (omega arith), lt-ltb k end l) refl)
             | no past ↦ h.above k (omega arith) ∙ sym (rw (le-leb first k (omega arith), le-ltb k end (omega arith)) refl)
           ]
     ]

@@ -1,9 +1,9 @@
 // Layer 3: judging the bytes of a sheet over a book, and the price list's numbers.
 //
-// What a client may cite: `judge_sheet`, of an input that holds both, `judge_over`, of a book that is a value, and `judge_sound`, of one that
-// is known to be sound. Each takes anything and asks nothing, with the contract `Judgement` (specs/Judgement.antt): every field of the
-// answer as a value, and demands 1, 2 and 3 on it. And the sheet's reader, `sheet`. Books are read by crate book, and nobody here looks at a
-// byte of one.
+// What a client may cite: `judge_sheet`, of an input that holds both, `judge_over`, of a book that is a value, and
+// `judge_sound`, of one that is known to be sound. Each takes anything and asks nothing, with the contract `Judgement`
+// (specs/Judgement.antt): every field of the answer as a value, and demands 1, 2 and 3 on it. And the sheet's reader,
+// `sheet`. Books are read by crate book, and nobody here looks at a byte of one.
 #![tactic(auto)]
 
 mod chain;

@@ -1,5 +1,5 @@
--- The parts of the printed text, pushed one behind the other: fields, lines, and the lines of the winners. Cited by the proofs of src/lib.rt.
--- Assumes nothing.
+-- The parts of the printed text, pushed one behind the other: fields, lines, and the lines of the winners.
+-- Cited by the proofs of src/lib.rt. Assumes nothing.
 use mathlib.Core.Path.{◌≡◌, refl, sym, ap, ap₂, ◌∙◌}
 use mathlib.Core.List.{List, [], ◌∷◌, ◌++◌}
 use Prim.Native.Nat.{ℕ, zero, suc, ◌+◌, ◌≤◌, ◌<◌, min}

@@ -1,5 +1,5 @@
--- What was read of an input, and the printed text of every input of which that can have been read. The contract of `price_list_of` cites it.
--- Assumes nothing: these are definitions.
+-- What was read of an input, and the printed text of every input of which that can have been read.
+-- The contract of `price_list_of` cites it. Assumes nothing: these are definitions.
 use Rattle.std.specs.Prelude.{◌≡◌, List, ℕ, ◌<◌, ◌≤◌, length, take}
 use Rattle.text.specs.declared.Text.{Text}
 use Rattle.listing.specs.Listing.{Listed}

@@ -1,4 +1,5 @@
--- Hours asked and hours used as numbers: whether they fit, and what is left. Cited by the proof of src/full.rt. Assumes nothing.
+-- Hours asked and hours used as numbers: whether they fit, and what is left. Cited by Searching and
+-- Taking. Assumes nothing.
 use mathlib.Core.Path.{◌≡◌, ap₂, ◌∙◌}
 use mathlib.Core.Bool.{true}
 use mathlib.Core.List.{List}

@@ -1,5 +1,5 @@
--- The value of a set of clients is the greatest value of the book without all others. Cited by the proofs of src/value.rt,
--- src/table.rt and src/weighing.rt. Assumes nothing.
+-- The value of a set of clients is the greatest value of the book without all others. Cited by SetValues.
+-- Assumes nothing.
 use mathlib.Core.Path.{◌≡◌, sym, ap, ◌∙◌}
 use mathlib.Core.Bool.{Bool, true, false, ◌&&◌, not, and_comm, and-true, and-false}
 use mathlib.Core.List.{List}

@@ -21,13 +21,15 @@ returns-in_err-ranges c =
     let p = err_from_is_err_and c.from_residual-in_err-ranges.result c.from_residual-in_err-ranges.ensures.1 in
     let s = c.in_ok-sheet in
     rw (p.1, p.2)
-    (sheet_no _ _ c.args.sound.sound _ c.from.ensures s.sheet s.ensures _ (seven_no c.args.sound.book.now s.sheet.bids s.sheet.figures _ c.in_err-ranges.ensures)
+    (sheet_no _ _ c.args.sound.sound _ c.from.ensures s.sheet s.ensures _
+    (seven_no c.args.sound.book.now s.sheet.bids s.sheet.figures _ c.in_err-ranges.ensures)
     (number_range _).0)
 
 pub shared_ref_as_front-winners : goal.shared_ref_as_front-winners
 shared_ref_as_front-winners c =
     let s = c.in_ok-sheet in
-    few c.args.sound.book.now s.sheet.bids s.sheet.figures c.args.sound.sound c.in_ok-ranges.ensures (six_bids _ _ s.sheet s.ensures)
+    few c.args.sound.book.now s.sheet.bids s.sheet.figures c.args.sound.sound c.in_ok-ranges.ensures
+    (six_bids _ _ s.sheet s.ensures)
 
 pub returns-in_err-weighed : goal.returns-in_err-weighed
 returns-in_err-weighed c =
@@ -35,14 +37,14 @@ returns-in_err-weighed c =
     let s = c.in_ok-sheet in
     rw (p.1, p.2)
     (sheet_no _ _ c.args.sound.sound _ c.from.ensures s.sheet s.ensures _
-    (weighed_no c.args.sound.book.now s.sheet.bids s.sheet.figures c.args.sound.sound c.in_ok-ranges.ensures (six_bids _ _ s.sheet s.ensures) _
-    c.in_err-weighed.ensures) (number_range _).0)
+    (weighed_no c.args.sound.book.now s.sheet.bids s.sheet.figures c.args.sound.sound c.in_ok-ranges.ensures
+    (six_bids _ _ s.sheet s.ensures) _ c.in_err-weighed.ensures) (number_range _).0)
 
 pub test_certificate-requires : goal.test_certificate-requires
 test_certificate-requires c =
     let s = c.in_ok-sheet in
-    weighed_sheet c.args.sound.book.now s.sheet.bids s.sheet.figures c.args.sound.sound c.in_ok-ranges.ensures (six_bids _ _ s.sheet s.ensures) _
-    c.in_ok-weighed.ensures
+    weighed_sheet c.args.sound.book.now s.sheet.bids s.sheet.figures c.args.sound.sound c.in_ok-ranges.ensures
+    (six_bids _ _ s.sheet s.ensures) _ c.in_ok-weighed.ensures
 
 -- questions 10 to 15 come last
 last : (c : After-test_certificate) (n : ℕ)
@@ -50,8 +52,8 @@ last : (c : After-test_certificate) (n : ℕ)
     → n ≡ judged (book_of c.args.sound.book.now) (sheet_held c.in_ok-sheet.sheet.bids c.in_ok-sheet.sheet.figures)
 last c n e =
     let s = c.in_ok-sheet in
-    e ∙ weighed_yes c.args.sound.book.now s.sheet.bids s.sheet.figures c.args.sound.sound c.in_ok-ranges.ensures (six_bids _ _ s.sheet s.ensures) _
-    c.in_ok-weighed.ensures
+    e ∙ weighed_yes c.args.sound.book.now s.sheet.bids s.sheet.figures c.args.sound.sound c.in_ok-ranges.ensures
+    (six_bids _ _ s.sheet s.ensures) _ c.in_ok-weighed.ensures
 
 pub returns-in_err-test_certificate : goal.returns-in_err-test_certificate
 returns-in_err-test_certificate c =

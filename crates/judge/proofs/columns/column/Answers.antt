@@ -12,7 +12,8 @@ pub loop-i-preserved : goal.loop-i-preserved
 loop-i-preserved g c f each =
     let l = c.loop-i in
     filled_next _ _ _ _ _ (omega (arith, c.requires.room.1))
-    (each l.i c.number.result l.auto.i c.loop-i-test.true c.number.ensures ∙ sym (at_place c.args.first f l.i l.auto.i)) (l.invariant f each)
+    (each l.i c.number.result l.auto.i c.loop-i-test.true c.number.ensures ∙ sym (at_place c.args.first f l.i l.auto.i))
+    (l.invariant f each)
 
 pub returns : goal.returns
 returns g c f each =

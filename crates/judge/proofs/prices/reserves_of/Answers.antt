@@ -11,7 +11,8 @@ unfolding rho win reserves amount_of
 loop-j-preserved c = (
   c.loop-j.invariant.0,
   filled_next _ _ _ _ _ (omega (arith, c.requires.few))
-      (c.saturating_sub.ensures ∙ rw (c.from.ensures, c.amount_of.ensures, c.reserves_of.ensures, c.from-bid.ensures) refl) c.loop-j.invariant.1,
+      (c.saturating_sub.ensures ∙ rw (c.from.ensures, c.amount_of.ensures, c.reserves_of.ensures, c.from-bid.ensures) refl)
+      c.loop-j.invariant.1,
 )
 
 pub returns : goal.returns

@@ -74,4 +74,5 @@ returns c =
     weighed_found _ (held_shaped _) _ _ refl (good here.Else-not-is_choice) (sym c.value_of-worth.ensures ∙ c.if-worth-value.false ∙ v) _ v
     c.owners_of-clients.ensures
     (c.sigma_by-sigma.ensures _ (sound_held _ sound) values
-    ∙ ap (λ (cs : List ℕ). surplus_table (book_of c.args.sound.book.now) cs) (cut here.After-owners_of-clients (few here.Else-not-is_choice)))
+    ∙ ap (λ (cs : List ℕ). surplus_table (book_of c.args.sound.book.now) cs)
+    (cut here.After-owners_of-clients (few here.Else-not-is_choice)))

@@ -23,14 +23,16 @@ kinds c = rw (← c.kinds.ensures) c.kinds_good.ensures
 pub returns-then-not-are_counts_ranged-clause-number : goal.returns-then-not-are_counts_ranged-clause-number
 unfolding sound_number
 returns-then-not-are_counts_ranged-clause-number c =
-    let no = sym (ranged (goal.at.returns-then-not-are_counts_ranged-clause-number c).After-are_counts_ranged) ∙ c.if-not-are_counts_ranged.true in
+    let here = goal.at.returns-then-not-are_counts_ranged-clause-number c in
+    let no = sym (ranged here.After-are_counts_ranged) ∙ c.if-not-are_counts_ranged.true in
     rw no
 
 pub returns-then-not-kinds_good-clause-number : goal.returns-then-not-kinds_good-clause-number
 unfolding sound_number
 returns-then-not-kinds_good-clause-number c =
-    let yes = sym (ranged (goal.at.returns-then-not-kinds_good-clause-number c).After-are_counts_ranged) ∙ c.if-not-are_counts_ranged.false in
-    let no = sym (kinds (goal.at.returns-then-not-kinds_good-clause-number c).After-kinds_good) ∙ c.if-not-kinds_good.true in
+    let here = goal.at.returns-then-not-kinds_good-clause-number c in
+    let yes = sym (ranged here.After-are_counts_ranged) ∙ c.if-not-are_counts_ranged.false in
+    let no = sym (kinds here.After-kinds_good) ∙ c.if-not-kinds_good.true in
     rw (yes, entries_held c.args.self.now, no)
 
 -- past both tests the number is that of questions 4 and 5
