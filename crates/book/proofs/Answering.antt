@@ -2,17 +2,18 @@
 -- what a reading with a book's arrays says. Cited by the proofs of src/reading.rt. Assumes nothing.
 use mathlib.Core.Path.{◌≡◌, sym, ap, ◌∙◌}
 use mathlib.Core.Bool.{true, false}
-use mathlib.Core.List.{List}
+use mathlib.Core.List.{List, map}
 use Prim.Native.Nat.{ℕ}
 use native.Mathlib.Omega.{arith}
-use lib.ListN.{length}
+use lib.ListN.{length, get_or, take}
 use Rattle.book.specs.Book.{clients}
 use Rattle.book.specs.Layout.{book_long, k_of, book_in}
 use Rattle.book.specs.Questions.{version_good, counts_ranged, counts_good, tables_good, entries_refusal, book_refusal}
-use Rattle.book.specs.Lists.{row}
-use Rattle.book.specs.Value.{kind_held, book_of, sound_number}
-use Rattle.book.specs.Reading.{arrays_of, Accepted}
+use Rattle.book.specs.Sound.{no_kind}
+use Rattle.book.specs.Value.{zero_kind, kind_of, book_of, sound_number}
+use Rattle.book.specs.Reading.{kind_entry, arrays_of, Accepted}
 use Rattle.book.specs.Room.{bids_refusal}
+use Rattle.book.specs.declared.value.Kind.{Kind as KindValue}
 use Rattle.book.specs.declared.value.Book.{Book as Arrays}
 use Rattle.book.specs.declared.reading.Reading.{Reading}
 use Rattle.book.proofs.HeldTests.{entries_staged}
@@ -20,6 +21,7 @@ use Rattle.book.proofs.Inside.{room_in}
 use Rattle.book.proofs.Places.{kinds_count, clients_count, bids_count}
 use Rattle.book.proofs.Refusals.{ranged, counts, entries_zero}
 use Rattle.book.proofs.RoundTrip.{kinds_back, arrays_back}
+use Rattle.book.proofs.RowLaws.{row_length, made_row}
 use Rattle.book.proofs.SoundRead.{kinds_each_in}
 
 module _ (bs : List ℕ) where
@@ -36,21 +38,23 @@ module _ (bs : List ℕ) where
   unfolding book_refusal entries_refusal
   refused_by_three one two h = rw (one, two, h)
 
-  -- question 3, of the arrays' kinds
-  pub kinds_are : (k : ℕ) (supply reserve : List ℕ) → counts_good bs ≡ true → k ≡ k_of bs → supply ≡ (arrays_of (book_in bs)).supply
-      → reserve ≡ (arrays_of (book_in bs)).reserve → row k 0 (kind_held supply reserve) ≡ (book_in bs).kinds
-  unfolding arrays_of
-  kinds_are k supply reserve two ek es er =
-      let same : k ≡ length (book_in bs).kinds = ek ∙ sym (kinds_count bs) in
-      rw (es, er, same) (kinds_back (book_in bs).kinds (room_in bs two).kinds)
+-- the kinds that are kept of a value's
+pub kinds_are : (bs : List ℕ) (k : ℕ) (ks : List KindValue) → counts_good bs ≡ true → k ≡ k_of bs → ks ≡ (arrays_of (book_in bs)).kinds
+    → map kind_of (take k ks) ≡ (book_in bs).kinds
+unfolding arrays_of
+kinds_are bs k ks two ek es =
+    let same : k ≡ length (book_in bs).kinds = ek ∙ sym (kinds_count bs) in
+    let few = (room_in bs two).kinds in
+    rw (es, same)
+    (made_row kind_of zero_kind _ _ (omega (arith, few, row_length 4 0 (λ j. kind_entry (get_or (book_in bs).kinds j no_kind))))
+    ∙ kinds_back (book_in bs).kinds few)
 
 -- a value whose fields are those of a book's arrays is these
-pub same_arrays : (v w : Arrays) → v.k ≡ w.k → v.supply ≡ w.supply → v.reserve ≡ w.reserve → v.n ≡ w.n → v.caps ≡ w.caps → v.m ≡ w.m
+pub same_arrays : (v w : Arrays) → v.k ≡ w.k → v.kinds ≡ w.kinds → v.n ≡ w.n → v.caps ≡ w.caps → v.m ≡ w.m
     → v.client ≡ w.client → v.hours ≡ w.hours → v.amount ≡ w.amount → v ≡ w
-same_arrays v w k supply reserve n caps m client hours amount = λ i. record {
+same_arrays v w k kinds n caps m client hours amount = λ i. record {
   k = k i;
-  supply = supply i;
-  reserve = reserve i;
+  kinds = kinds i;
   n = n i;
   caps = caps i;
   m = m i;

@@ -18,8 +18,9 @@ use Rattle.book.specs.Layout.{book_long, k_of, n_of, m_of, statuses_from, bids_f
 use Rattle.book.specs.Questions.{version_good, book_formula, counts_ranged, counts_good, kind_good, status_good, tables_good}
 use Rattle.book.specs.Questions.{bid_good, bids_of, few_bids, bids_good, reserves_met, amounts_good, entries_refusal, book_refusal}
 use Rattle.book.specs.Sound.{no_kind}
-use Rattle.book.specs.Value.{kind_held, status_held, bid_held, book_of, sound_number}
-use Rattle.book.specs.Reading.{cap_of, arrays_of, ReadingIs}
+use Rattle.book.specs.Value.{kind_of, status_held, bid_held, book_of, sound_number}
+use Rattle.book.specs.Reading.{cap_of, kind_entry, hours_entry, arrays_of, ReadingIs}
+use Rattle.book.specs.declared.value.Kind.{Kind as KindValue}
 use Rattle.book.specs.declared.value.Book.{Book as Arrays}
 use Rattle.book.specs.declared.reading.Reading.{Reading}
 
@@ -27,8 +28,8 @@ use Rattle.book.specs.declared.reading.Reading.{Reading}
 unfoldable computed : Unit {0}
 unfolding tabulate field bytes_at within all count row all_to total clients no_bid reserves_of book_long k_of n_of m_of statuses_from
     bids_from kind_here kinds_in bid_here bids_in book_in version_good book_formula counts_ranged counts_good kind_good status_good
-    tables_good bid_good bids_of few_bids bids_good reserves_met amounts_good entries_refusal book_refusal no_kind kind_held status_held
-    bid_held book_of sound_number cap_of arrays_of
+    tables_good bid_good bids_of few_bids bids_good reserves_met amounts_good entries_refusal book_refusal no_kind kind_of status_held
+    bid_held book_of sound_number cap_of kind_entry hours_entry arrays_of
 computed = tt
 
 -- THE BOOK, by its bytes and in arrays: one kind, with two hours at 10; client 3 stands where its status is 0
@@ -37,29 +38,30 @@ bytes third =
     (1 ∷ 0 ∷ 30 ∷ 1 ∷ 2 ∷ 0 ∷ 10 ∷ 3 ∷ 0 ∷ 0 ∷ third ∷ 3 ∷ [])
     ++ (1 ∷ 1 ∷ 0 ∷ 0 ∷ 0 ∷ 60 ∷ []) ++ (2 ∷ 1 ∷ 0 ∷ 0 ∷ 0 ∷ 50 ∷ []) ++ (3 ∷ 2 ∷ 0 ∷ 0 ∷ 0 ∷ 70 ∷ [])
 
+abbrev kind : (supply reserve : ℕ) → KindValue
+kind supply reserve = record { supply = supply; reserve = reserve }
+
 abbrev arrays : (k supply third_cap amount : ℕ) → Arrays
 arrays k supply cap amount = record {
   k = k;
-  supply = supply ∷ replicate 3 0;
-  reserve = 10 ∷ replicate 3 0;
+  kinds = kind supply 10 ∷ replicate 3 (kind 0 0);
   n = 3;
   caps = 65535 ∷ 65535 ∷ cap ∷ replicate 3 0;
   m = 3;
   client = 1 ∷ 2 ∷ 3 ∷ replicate 45 0;
-  hours = (1 ∷ replicate 3 0) ++ (1 ∷ replicate 3 0) ++ (2 ∷ replicate 183 0);
+  hours = (1 ∷ replicate 3 0) ∷ (1 ∷ replicate 3 0) ∷ (2 ∷ replicate 3 0) ∷ replicate 45 (replicate 4 0);
   amount = 60 ∷ 50 ∷ amount ∷ replicate 45 0;
 }
 
 abbrev zero_arrays : Arrays
 zero_arrays = record {
   k = 0;
-  supply = replicate 4 0;
-  reserve = replicate 4 0;
+  kinds = replicate 4 (kind 0 0);
   n = 0;
   caps = replicate 6 0;
   m = 0;
   client = replicate 48 0;
-  hours = replicate 192 0;
+  hours = replicate 48 (replicate 4 0);
   amount = replicate 48 0;
 }
 

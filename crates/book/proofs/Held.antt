@@ -3,20 +3,19 @@
 use mathlib.Core.Path.{◌≡◌, refl, sym, ap, ap₂, ◌∙◌}
 use mathlib.Core.Bool.{Bool, true, false, ◌&&◌, not, cond}
 use mathlib.Core.List.{List, []}
-use Prim.Native.Nat.{ℕ, zero, suc, ◌+◌, ◌*◌, ◌-◌, ◌<◌, min}
+use Prim.Native.Nat.{ℕ, zero, suc, ◌+◌, ◌-◌, ◌<◌, min}
 use native.Mathlib.Omega.{arith}
 use native.Mathlib.Numerals.{add-one}
 use lib.Dec.{ltb, eqb}
 use lib.ListN.{length, get_or, get_or-map}
-use borrow.Author.Tests.{le-leb, lt-ltb}
+use borrow.Author.Tests.{le-leb}
 use Rattle.book.specs.Lists.{within, row}
-use Rattle.book.specs.Book.{Kind, Bid, no_bid, bid_at, client_of, clients, standing, supplies, reserves_of}
+use Rattle.book.specs.Book.{Kind, Bid, no_bid, bid_at, client_of, clients, standing, supplies}
 use Rattle.book.specs.Questions.{counts_ranged, entries_refusal}
 use Rattle.book.specs.Sound.{no_kind, Sound, Shaped}
-use Rattle.book.specs.Value.{kind_held, status_held, bid_held, book_of, sound_number}
+use Rattle.book.specs.Value.{zero_kind, kind_of, status_held, bid_held, book_of, sound_number}
 use Rattle.book.specs.declared.value.Book.{Book as Arrays}
 use Rattle.book.proofs.RowLaws.{row_length, row_at, row_entry}
-use Rattle.book.proofs.Tests.{true_within}
 use Rattle.book.proofs.Soundness.{Counted, counted, KindsEach, shaped_each, sound_book}
 
 module _ (v : Arrays) where
@@ -90,9 +89,9 @@ module _ (v : Arrays) where
   unfolding bid_held no_bid
   amount_by_number i = ap (λ (x : Bid). x.amount) (bid_by_number i) ∙ picked (λ (x : Bid). x.amount) (within 1 i (min v.m 48)) _ _
 
-  -- its hours, how many numbers they are, that of a kind from 0, and their reserves
+  -- its hours, how many numbers they are, and that of a kind from 0
   pub hours_by_number : (i : ℕ) → (bid_at (book_of v) i).hours
-      ≡ cond (within 1 i (min v.m 48)) (row (min v.k 4) (4 * (i - 1)) (λ p. get_or v.hours p 0)) []
+      ≡ cond (within 1 i (min v.m 48)) (row (min v.k 4) 0 (λ p. get_or (get_or v.hours (i - 1) []) p 0)) []
   unfolding bid_held no_bid
   hours_by_number i = ap (λ (x : Bid). x.hours) (bid_by_number i) ∙ picked (λ (x : Bid). x.hours) (within 1 i (min v.m 48)) _ _
 
@@ -100,33 +99,29 @@ module _ (v : Arrays) where
   hours_length i =
       ap (λ (hs : List ℕ). length hs) (hours_by_number i)
       ∙ picked (λ (hs : List ℕ). length hs) (within 1 i (min v.m 48)) _ []
-      ∙ ap (λ (n : ℕ). cond (within 1 i (min v.m 48)) n 0) (row_length (min v.k 4) (4 * (i - 1)) (λ p. get_or v.hours p 0))
+      ∙ ap (λ (n : ℕ). cond (within 1 i (min v.m 48)) n 0) (row_length (min v.k 4) 0 (λ p. get_or (get_or v.hours (i - 1) []) p 0))
+
+  hours_there : (hs : List ℕ) (j : ℕ) → get_or (row (min v.k 4) 0 (λ p. get_or hs p 0)) j 0 ≡ cond (ltb j (min v.k 4)) (get_or hs j 0) 0
+  hours_there hs j =
+      let place : 0 + j ≡ j = omega arith in
+      rw place at (row_entry (min v.k 4) 0 (λ p. get_or hs p 0) j 0)
 
   pub hours_of_kind : (i j : ℕ) → get_or (bid_at (book_of v) i).hours j 0
-      ≡ cond (within 1 i (min v.m 48) && ltb j (min v.k 4)) (get_or v.hours (4 * (i - 1) + j) 0) 0
+      ≡ cond (within 1 i (min v.m 48) && ltb j (min v.k 4)) (get_or (get_or v.hours (i - 1) []) j 0) 0
   hours_of_kind i j =
       ap (λ (hs : List ℕ). get_or hs j 0) (hours_by_number i)
       ∙ picked (λ (hs : List ℕ). get_or hs j 0) (within 1 i (min v.m 48)) _ []
-      ∙ ap (λ (n : ℕ). cond (within 1 i (min v.m 48)) n 0) (row_entry (min v.k 4) (4 * (i - 1)) (λ p. get_or v.hours p 0) j 0)
+      ∙ ap (λ (n : ℕ). cond (within 1 i (min v.m 48)) n 0) (hours_there (get_or v.hours (i - 1) []) j)
       ∙ picked_both (within 1 i (min v.m 48)) (ltb j (min v.k 4)) _
 
-  pub reserves_by_number : (i : ℕ) → reserves_of (bid_at (book_of v) i).hours (book_of v).kinds
-      ≡ cond (within 1 i (min v.m 48))
-      (reserves_of (row (min v.k 4) (4 * (i - 1)) (λ p. get_or v.hours p 0))
-      (row (min v.k 4) 0 (kind_held v.supply v.reserve))) 0
-  unfolding book_of reserves_of
-  reserves_by_number i =
-      ap (λ (hs : List ℕ). reserves_of hs (book_of v).kinds) (hours_by_number i)
-      ∙ picked (λ (hs : List ℕ). reserves_of hs (book_of v).kinds) (within 1 i (min v.m 48)) _ []
-
   -- the supply of a kind from 0
-  pub supply_by_number : (j : ℕ) → get_or (supplies (book_of v)) j 0 ≡ cond (ltb j (min v.k 4)) (get_or v.supply j 0) 0
-  unfolding book_of supplies kind_held no_kind
+  pub supply_by_number : (j : ℕ) → get_or (supplies (book_of v)) j 0 ≡ cond (ltb j (min v.k 4)) (get_or v.kinds j zero_kind).supply 0
+  unfolding book_of supplies kind_of no_kind
   supply_by_number j =
       get_or-map (λ (x : Kind). x.supply) (book_of v).kinds j no_kind
-      ∙ ap (λ (x : Kind). x.supply) (row_entry (min v.k 4) 0 (kind_held v.supply v.reserve) j no_kind)
+      ∙ ap (λ (x : Kind). x.supply) (row_entry (min v.k 4) 0 (λ p. kind_of (get_or v.kinds p zero_kind)) j no_kind)
       ∙ picked (λ (x : Kind). x.supply) (ltb j (min v.k 4)) _ no_kind
-      ∙ ap (λ (p : ℕ). cond (ltb j (min v.k 4)) (get_or v.supply p 0) 0) (omega arith)
+      ∙ ap (λ (p : ℕ). cond (ltb j (min v.k 4)) (get_or v.kinds p zero_kind).supply 0) (omega arith)
 
   -- who stands, by number from 1
   pub standing_by_number : (c : ℕ) → standing (book_of v) c ≡ (within 1 c (min v.n 6) && not (eqb (get_or v.caps (c - 1) 0) 0))
@@ -136,15 +131,6 @@ module _ (v : Arrays) where
       ap (λ (s : ℕ). eqb s 0) (row_entry (min v.n 6) 0 (status_held v.caps) c 1)
       ∙ stands_within (ltb c (min v.n 6)) (eqb (get_or v.caps (0 + c) 0) 0)
       ∙ ap₂ (λ (here : Bool) (p : ℕ). here && not (eqb (get_or v.caps p 0) 0)) (numbered_within c (min v.n 6)) (omega arith)
-
-  -- the same of kinds and clients that there are
-  pub held_supply : (j : ℕ) → j < min v.k 4 → get_or (supplies (book_of v)) j 0 ≡ get_or v.supply j 0
-  held_supply j l = supply_by_number j ∙ (rw (lt-ltb j (min v.k 4) l))
-
-  pub held_standing : (c : ℕ) → c < min v.n 6 → standing (book_of v) (c + 1) ≡ not (eqb (get_or v.caps c 0) 0)
-  held_standing c l =
-      let here : c + 1 - 1 ≡ c = omega arith in
-      standing_by_number (c + 1) ∙ (rw (true_within 1 (c + 1) (min v.n 6) (omega arith) (omega arith), here))
 
 -- two questions in a row, of which none is answered no
 two_yes : (a : Bool) (n : ℕ) → cond (not a) 2 n ≡ 0 → (a ≡ true) × (n ≡ 0)

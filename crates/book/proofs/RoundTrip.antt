@@ -1,12 +1,11 @@
 -- A book put into arrays and taken back out is the same book, where the arrays have room for it. Cited by Inside, Entered and Answering,
 -- and for the layers above. Assumes nothing.
-use mathlib.Core.Path.{◌≡◌, refl, sym, ap, ◌∙◌}
+use mathlib.Core.Path.{◌≡◌, refl, ap, ◌∙◌}
 use mathlib.Core.Bool.{true, cond, and-eq-true_iff}
-use mathlib.Core.List.{List}
-use Prim.Native.Nat.{ℕ, zero, suc, ◌+◌, ◌*◌, ◌/◌, ◌%◌, ◌≤◌, ◌<◌, min}
-use native.Mathlib.Nat.{mul-add-div, mul-add-mod_self_left, div-eq_of_lt, mod-eq_of_lt}
+use mathlib.Core.List.{List, []}
+use Prim.Native.Nat.{ℕ, zero, suc, ◌+◌, ◌≤◌, ◌<◌, min}
 use native.Mathlib.Omega.{arith}
-use lib.Dec.{eqb, lit<}
+use lib.Dec.{eqb}
 use lib.ListN.{length, get_or}
 use lib.Seq.{ext_get_or}
 use borrow.Author.Tests.{leb-true}
@@ -16,8 +15,8 @@ use Rattle.book.specs.Lists.{all, row}
 use Rattle.book.specs.Book.{Kind, Bid, Book, no_bid, bid_at, clients}
 use Rattle.book.specs.Questions.{kind_good, status_good, tables_good}
 use Rattle.book.specs.Sound.{no_kind}
-use Rattle.book.specs.Value.{kind_held, status_held, bid_held, book_of}
-use Rattle.book.specs.Reading.{cap_of, arrays_of}
+use Rattle.book.specs.Value.{zero_kind, kind_of, status_held, bid_held, book_of}
+use Rattle.book.specs.Reading.{cap_of, kind_entry, hours_entry, arrays_of}
 use Rattle.book.proofs.RowLaws.{row_length, row_at}
 use Rattle.book.proofs.Soundness.{KindsEach}
 use Rattle.book.proofs.Tests.{all_true}
@@ -28,13 +27,6 @@ pub record Room (k n m : ℕ) : Type 0 where
   pub clients : n ≤ 6
   pub bids : m ≤ 48
 
--- hours of kind j of the bid at place i
-pub place_bid : (i j : ℕ) → j < 4 → (4 * i + j) / 4 ≡ i
-place_bid i j l = omega (arith, mul-add-div {m = 4} (lit< tt) i j, div-eq_of_lt l)
-
-pub place_kind : (i j : ℕ) → j < 4 → (4 * i + j) % 4 ≡ j
-place_kind i j l = mul-add-mod_self_left 4 i j ∙ mod-eq_of_lt l
-
 -- a list is the row of its entries, as something else gives them
 same_row : {A : Type 0} (d : A) (xs : List A) (f : ℕ → A) → ((i : ℕ) → i < length xs → f i ≡ get_or xs i d) → row (length xs) 0 f ≡ xs
 same_row d xs f h =
@@ -43,14 +35,12 @@ same_row d xs f h =
     row_at (length xs) 0 f i d k ∙ ap f (omega arith) ∙ h i k)
 
 pub kinds_back : (ks : List Kind) → length ks ≤ 4
-    → row (length ks) 0 (kind_held (tabulate 4 (λ j. (get_or ks j no_kind).supply)) (tabulate 4 (λ j. (get_or ks j no_kind).reserve))) ≡ ks
-unfolding kind_held
+    → row (length ks) 0 (λ j. kind_of (get_or (row 4 0 (λ j. kind_entry (get_or ks j no_kind))) j zero_kind)) ≡ ks
+unfolding kind_of kind_entry
 kinds_back ks l =
     same_row no_kind ks _ (λ i k.
-    rw (
-      tabulate_at 4 (λ j. (get_or ks j no_kind).supply) i 0 (omega arith),
-      tabulate_at 4 (λ j. (get_or ks j no_kind).reserve) i 0 (omega arith),
-    ))
+    let here : 0 + i ≡ i = omega arith in
+    rw (row_at 4 0 (λ j. kind_entry (get_or ks j no_kind)) i zero_kind (omega arith), here))
 
 -- a status of 0 or 1 by its cap
 status_back : (s : ℕ) → s ≤ 1 → cond (eqb (cond (eqb s 0) 65535 0) 0) 1 0 ≡ s
@@ -65,28 +55,24 @@ statuses_back ss l h =
     same_row 1 ss _ (λ i k.
     rw (tabulate_at 6 (cap_of ss) i 0 (omega arith)) (status_back (get_or ss i 1) (leb-true _ _ (all_true status_good 1 ss h i k))))
 
+-- the hours of a bid over k kinds
+hours_back : (hs : List ℕ) (k : ℕ) → length hs ≡ k → k ≤ 4 → row k 0 (λ j. get_or (hours_entry hs) j 0) ≡ hs
+unfolding hours_entry
+hours_back hs k e l = rw (← e) (same_row 0 hs _ (λ j h. tabulate_at 4 (λ j. get_or hs j 0) j 0 (omega arith)))
+
 module _ (k : ℕ) (xs : List Bid) (lk : k ≤ 4) (lm : length xs ≤ 48)
     (each : (i : ℕ) → i < length xs → length (get_or xs i no_bid).hours ≡ k) where
-  -- the entry of the array of hours at a place
-  abbrev hours_in : ℕ → ℕ
-  hours_in p = get_or (get_or xs (p / 4) no_bid).hours (p % 4) 0
-
-  hours_back : (i : ℕ) → i < length xs → row k (4 * i) (λ p. get_or (tabulate 192 hours_in) p 0) ≡ (get_or xs i no_bid).hours
-  hours_back i l =
-      ext_get_or 0 _ _ (row_length k (4 * i) _ ∙ sym (each i l)) (λ j h.
-      let lj : j < k = omega (arith, row_length k (4 * i) (λ p. get_or (tabulate 192 hours_in) p 0)) in
-      row_at k (4 * i) (λ p. get_or (tabulate 192 hours_in) p 0) j 0 lj
-      ∙ tabulate_at 192 hours_in (4 * i + j) 0 (omega arith)
-      ∙ (rw (place_bid i j (omega arith), place_kind i j (omega arith))))
-
   pub bids_back : row (length xs) 0 (bid_held k (tabulate 48 (λ i. (get_or xs i no_bid).client))
-      (tabulate 192 (λ p. get_or (get_or xs (p / 4) no_bid).hours (p % 4) 0)) (tabulate 48 (λ i. (get_or xs i no_bid).amount))) ≡ xs
+      (row 48 0 (λ i. hours_entry (get_or xs i no_bid).hours)) (tabulate 48 (λ i. (get_or xs i no_bid).amount))) ≡ xs
   unfolding bid_held
   bids_back =
       same_row no_bid xs _ (λ i l.
+      let here : 0 + i ≡ i = omega arith in
       rw (
         tabulate_at 48 (λ i. (get_or xs i no_bid).client) i 0 (omega arith),
-        hours_back i l,
+        row_at 48 0 (λ i. hours_entry (get_or xs i no_bid).hours) i [] (omega arith),
+        here,
+        hours_back (get_or xs i no_bid).hours k (each i l) lk,
         tabulate_at 48 (λ i. (get_or xs i no_bid).amount) i 0 (omega arith),
       ))
 

@@ -1,14 +1,17 @@
 -- Rows of a function's values: how long they are, what stands at a place, and which are the same. Cited by the laws of a book that is a
 -- value, and by the layers above. Assumes nothing.
-use mathlib.Core.Path.{◌≡◌, refl, ap, ◌∙◌}
+use mathlib.Core.Path.{◌≡◌, refl, sym, ap, ◌∙◌}
 use mathlib.Core.Bool.{cond}
+use mathlib.Core.List.{List, ◌∷◌, map}
 use Prim.Native.Nat.{ℕ, zero, suc, ◌+◌, ◌≤◌, ◌<◌}
 use native.Mathlib.Nat.{le_of_suc-le-suc}
 use native.Mathlib.Decide.{dec_lt}
 use native.Mathlib.Omega.{arith}
 use lib.Dec.{ltb}
-use lib.ListN.{length, get_or, get_or-eq_default}
+use lib.ListN.{length, get_or, take, get_or-eq_default}
+use lib.Seq.{ext_get_or}
 use borrow.Author.Tests.{lt-ltb, le-ltb}
+use Rattle.std.proofs.lemmas.List.{get_or-take, length-take-le}
 use Rattle.book.specs.Lists.{row}
 
 module _ {A : Type 0} where
@@ -42,3 +45,21 @@ module _ {A : Type 0} where
       let tail : row t (i + 1) f ≡ row t (j + 1) g
       = row_same t (i + 1) (j + 1) f g (λ p l. ap f (omega arith) ∙ h (suc p) (omega arith) ∙ ap g (omega arith)) in
       rw (head, tail)
+
+-- the first of a list, as a row, and what a function makes of a row
+pub taken_row : {A : Type 0} (d : A) (m : ℕ) (xs : List A) → m ≤ length xs → take m xs ≡ row m 0 (λ i. get_or xs i d)
+taken_row d m xs l =
+    let long : length (take m xs) ≡ m = length-take-le m xs l in
+    ext_get_or d (take m xs) _ (long ∙ sym (row_length m 0 (λ i. get_or xs i d))) (λ i k.
+    let inside : i < m = omega arith in
+    let here : 0 + i ≡ i = omega arith in
+    get_or-take m xs i d inside ∙ sym (rw (row_at m 0 (λ i. get_or xs i d) i d inside, here)))
+
+pub row_made : {A X : Type 0} (f : X → A) (m i : ℕ) (g : ℕ → X) → map f (row m i g) ≡ row m i (λ j. f (g j))
+unfolding row
+row_made f zero i g = refl
+row_made f (suc m) i g = ap (◌∷◌ (f (g i))) (row_made f m (i + 1) g)
+
+pub made_row : {A X : Type 0} (f : X → A) (d : X) (m : ℕ) (xs : List X) → m ≤ length xs
+    → map f (take m xs) ≡ row m 0 (λ i. f (get_or xs i d))
+made_row f d m xs l = ap (map f) (taken_row d m xs l) ∙ row_made f m 0 (λ i. get_or xs i d)

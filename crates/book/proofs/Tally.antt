@@ -1,17 +1,16 @@
 -- The counts of each client's bids held to the limit, client by client. Cited by the proofs of src/limit.rt. Assumes nothing.
 use mathlib.Core.Path.{◌≡◌, refl, sym, ap, ap₂, ◌∙◌}
 use mathlib.Core.Bool.{Bool, true, false, ◌&&◌, cond, true≢false}
-use mathlib.Core.List.{List}
+use mathlib.Core.List.{List, [], ◌∷◌}
 use Prim.Native.Nat.{ℕ, zero, suc, ◌+◌, ◌≤◌, ◌<◌, min}
 use native.Mathlib.Decide.{dec_lt}
-use native.Mathlib.Numerals.{add-one}
 use native.Mathlib.Omega.{arith}
 use lib.Dec.{leb, eqb}
-use lib.ListN.{length, get_or, take, drop}
-use lib.Seq.{ext_get_or, drop-cons}
+use lib.ListN.{length, get_or, take}
 use mir.Val.{bool_byte}
 use borrow.Author.Tests.{le-leb, lt-leb}
-use Rattle.std.proofs.lemmas.List.{get_or-take, length-take-le, drop_all}
+use Rattle.std.proofs.Common.{sum_by}
+use Rattle.std.proofs.lemmas.List.Sums.{sum_by-cons}
 use Rattle.book.specs.Lists.{all_to, count, row}
 use Rattle.book.specs.Book.{clients}
 use Rattle.book.specs.Questions.{bids_of, few_bids}
@@ -19,31 +18,20 @@ use Rattle.book.specs.Value.{bid_held, book_of}
 use Rattle.book.specs.Room.{named}
 use Rattle.book.specs.declared.value.Book.{Book as Arrays}
 use Rattle.book.proofs.Held.{held_clients}
-use Rattle.book.proofs.RowLaws.{row_length, row_at}
+use Rattle.book.proofs.RowLaws.{taken_row}
 use Rattle.book.proofs.Tests.{all_to_true, true_all_to}
 use Rattle.book.proofs.Lists.{no_more}
 
--- how often a number stands in a list, from its front on
-abbrev pub times : (c : ℕ) → List ℕ → ℕ
-times c xs = count (λ x. eqb x c) xs
-
--- a bid counts for one or for none
-pub one_most : (b : Bool) (one : ℕ) → one ≡ bool_byte b → one ≤ 1
-one_most true one e = omega arith
-one_most false one e = omega arith
-
-one_is : (b : Bool) → bool_byte b ≡ cond b 1 0
-one_is true = refl
-one_is false = refl
-
-pub times_next : (c i before one : ℕ) (xs : List ℕ) → i < length xs → one ≡ bool_byte (eqb (get_or xs i 0) c)
-    → before + one + times c (drop (i + 1) xs) ≡ before + times c (drop i xs)
+-- a sum of ones is a count
+pub ones_counted : (p : ℕ → Bool) (xs : List ℕ) → sum_by (λ x. bool_byte (p x)) xs ≡ count p xs
 unfolding count
-times_next c i before one xs l e = rw (add-one i, drop-cons xs i 0 l, e, one_is) (omega arith)
-
-pub times_done : (c i all : ℕ) (xs : List ℕ) → length xs ≤ i → all + times c (drop i xs) ≡ times c xs → all ≡ times c xs
-unfolding count
-times_done c i all xs l h = omega (arith, rw (drop_all i xs l) at h)
+ones_counted p [] = refl
+ones_counted p (x ∷ xs) =
+    sum_by-cons (λ y. bool_byte (p y)) x xs ∙ ap₂ (λ (m n : ℕ). m + n) (one_is (p x)) (ones_counted p xs)
+  where
+    one_is : (b : Bool) → bool_byte b ≡ cond b 1 0
+    one_is true = refl
+    one_is false = refl
 
 -- a client is named at most eight times
 unfoldable pub few_named : List ℕ → (client : ℕ) → Bool
@@ -73,18 +61,9 @@ unfolding all_to
 all_to_same p q h zero = refl
 all_to_same p q h (suc n) = ap₂ ◌&&◌ (all_to_same p q h n) (h (suc n))
 
--- the front of a list is a row of its entries
-taken_row : (m : ℕ) (cs : List ℕ) → m ≤ length cs → take m cs ≡ row m 0 (λ i. get_or cs i 0)
-taken_row m cs l =
-    let long : length (take m cs) ≡ m = length-take-le m cs l in
-    ext_get_or 0 (take m cs) _ (long ∙ sym (row_length m 0 (λ i. get_or cs i 0))) (λ i k.
-    let inside : i < m = omega arith in
-    let here : 0 + i ≡ i = omega arith in
-    get_or-take m cs i 0 inside ∙ sym (rw (row_at m 0 (λ i. get_or cs i 0) i 0 inside, here)))
-
-module _ (cs : List ℕ) (k : ℕ) (hs xs : List ℕ) where
+module _ (cs : List ℕ) (k : ℕ) (hs : List (List ℕ)) (xs : List ℕ) where
   -- how often a client is named is how many bids it has
-  times_bids : (c t i : ℕ) → times c (row t i (λ j. get_or cs j 0)) ≡ bids_of c (row t i (bid_held k cs hs xs))
+  times_bids : (c t i : ℕ) → count (λ x. eqb x c) (row t i (λ j. get_or cs j 0)) ≡ bids_of c (row t i (bid_held k cs hs xs))
   unfolding bids_of count row bid_held
   times_bids c zero i = refl
   times_bids c (suc t) i = ap (λ (s : ℕ). cond (eqb (get_or cs i 0) c) 1 0 + s) (times_bids c t (i + 1))
@@ -92,7 +71,7 @@ module _ (cs : List ℕ) (k : ℕ) (hs xs : List ℕ) where
   pub few_for_bids : (n m : ℕ) → m ≤ length cs → all_to n (few_named (take m cs)) ≡ all_to n (few_bids (row m 0 (bid_held k cs hs xs)))
   unfolding few_named few_bids named
   few_for_bids n m l =
-      all_to_same _ _ (λ c. ap (λ (s : ℕ). leb s 8) (ap (times c) (taken_row m cs l) ∙ times_bids c m 0)) n
+      all_to_same _ _ (λ c. ap (λ (s : ℕ). leb s 8) (ap (count (λ x. eqb x c)) (taken_row 0 m cs l) ∙ times_bids c m 0)) n
 
 -- the same of a book that is a value
 pub few_held : (v : Arrays) (m n : ℕ) → m ≡ min v.m 48 → n ≡ min v.n 6 → 48 ≤ length v.client

@@ -2,14 +2,14 @@
 -- arrays of bids. Cited by the proofs of src/filling.rt. Assumes nothing.
 use mathlib.Core.Path.{◌≡◌, sym, ap, ◌∙◌}
 use mathlib.Core.List.{List}
-use Prim.Native.Nat.{ℕ, ◌+◌, ◌*◌, ◌≤◌}
+use Prim.Native.Nat.{ℕ, ◌≤◌}
 use native.Mathlib.Decide.{dec_lt}
 use native.Mathlib.Omega.{arith}
-use lib.ListN.{get_or, set}
+use lib.ListN.{get_or}
 use lib.Seq.{ext_get_or}
 use Rattle.sets.specs.Tables.{tabulate}
 use Rattle.book.specs.declared.value.Book.{Book as Arrays}
-use Rattle.sets.proofs.Filled.{Filled, filled_next}
+use Rattle.sets.proofs.Filled.{Filled}
 use Rattle.sets.proofs.Tables.{tabulate_length, tabulate_at}
 
 pub filled_whole : (n : ℕ) (f : ℕ → ℕ) (i : ℕ) (xs : List ℕ) → Filled n f i xs → ((j : ℕ) → i ≤ j → f j ≡ 0) → xs ≡ tabulate n f
@@ -19,21 +19,9 @@ filled_whole n f i xs h past =
     entry : (j : ℕ) → get_or xs j 0 ≡ f j
     entry j = elim (dec_lt j i) [ yes l ↦ h.below j l | no l ↦ h.above j (omega arith) ∙ sym (past j (omega arith)) ]
 
--- four entries at a time
-pub filled_four : (n : ℕ) (f : ℕ → ℕ) (i : ℕ) (xs : List ℕ) (a b c d : ℕ) → 4 * i + 4 ≤ n
-    → a ≡ f (4 * i) → b ≡ f (4 * i + 1) → c ≡ f (4 * i + 2) → d ≡ f (4 * i + 3) → Filled n f (4 * i) xs
-    → Filled n f (4 * (i + 1)) (set (set (set (set xs (4 * i) a) (4 * i + 1) b) (4 * i + 2) c) (4 * i + 3) d)
-filled_four n f i xs a b c d l ea eb ec ed h =
-    let one : 4 * i + 1 + 1 ≡ 4 * i + 2 = omega arith in
-    let two : 4 * i + 2 + 1 ≡ 4 * i + 3 = omega arith in
-    let three : 4 * i + 3 + 1 ≡ 4 * (i + 1) = omega arith in
-    rw three at
-    (filled_next n f (4 * i + 3) _ d (omega arith) ed
-    (rw two at (filled_next n f (4 * i + 2) _ c (omega arith) ec
-    (rw one at (filled_next n f (4 * i + 1) _ b (omega arith) eb (filled_next n f (4 * i) xs a (omega arith) ea h))))))
-
 -- a book v that is w but for the arrays of bids, where these are written once more, and where they are known
-module _ (v w : Arrays) (e : v ≡ record w { client = v.client; hours = v.hours; amount = v.amount }) (cs hs xs : List ℕ) where
+module _ (v w : Arrays) (e : v ≡ record w { client = v.client; hours = v.hours; amount = v.amount })
+    (cs : List ℕ) (hs : List (List ℕ)) (xs : List ℕ) where
   pub bids_written : record v { client = cs; hours = hs; amount = xs } ≡ record w { client = cs; hours = hs; amount = xs }
   bids_written = ap (λ (b : Arrays). record b { client = cs; hours = hs; amount = xs }) e
 

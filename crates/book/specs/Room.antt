@@ -3,14 +3,11 @@
 -- alone. Assumes nothing: these are definitions.
 use Rattle.std.specs.Prelude.{◌≡◌, ◌&&◌, not, cond, List, ℕ, ◌+◌, ◌*◌, ◌/◌, ◌%◌, ◌≤◌, ◌<◌, ltb, eqb, get_or, slice_get, IfSome}
 use Rattle.sets.specs.Tables.{tabulate}
-use Rattle.book.specs.Lists.{all, all_to, count, row}
+use Rattle.book.specs.Lists.{all, all_to, count}
 use Rattle.book.specs.Book.{Kind, Bid}
 use Rattle.book.specs.Questions.{bid_good, few_bids, reserves_met}
-use Rattle.book.specs.Value.{kind_held}
-
--- the kinds that arrays hold
-abbrev pub kinds_held : (k : ℕ) → (supply reserve : List ℕ) → List Kind
-kinds_held k ss rs = row k 0 (kind_held ss rs)
+use Rattle.book.specs.Value.{zero_kind}
+use Rattle.book.specs.declared.value.Kind.{Kind as KindValue}
 
 -- the first k of four entries, and zeros past them
 pub record FirstOf {T : Type 0} (IsZero : T → Type 0) (k : ℕ) (entries first : List T) : Type 0 where
@@ -21,22 +18,22 @@ pub record FirstOf {T : Type 0} (IsZero : T → Type 0) (k : ℕ) (entries first
 abbrev pub first_of : (k : ℕ) → List ℕ → List ℕ
 first_of k rs = tabulate 4 (λ j. cond (ltb j k) (get_or rs j 0) 0)
 
--- four hours from a place on, each times its reserve
-abbrev pub products : (hours : List ℕ) → (at : ℕ) → (reserve : List ℕ) → ℕ
-products hs at rs =
-    get_or hs at 0 * get_or rs 0 0 + get_or hs (at + 1) 0 * get_or rs 1 0 + get_or hs (at + 2) 0 * get_or rs 2 0
-    + get_or hs (at + 3) 0 * get_or rs 3 0
+-- four hours, each times the reserve of its kind
+abbrev pub products : (hours : List ℕ) → (kinds : List KindValue) → ℕ
+products hs ks =
+    get_or hs 0 0 * (get_or ks 0 zero_kind).reserve + get_or hs 1 0 * (get_or ks 1 zero_kind).reserve
+    + get_or hs 2 0 * (get_or ks 2 zero_kind).reserve + get_or hs 3 0 * (get_or ks 3 zero_kind).reserve
 
 -- what the second of two bids counts where the hours, or the reserves, of both are one number: 2^32
 abbrev pub second_bid : ℕ
 second_bid = 4294967296
 
--- a number whose lowest four bytes, the lowest first, are the hours from a place on
-pub record FourHours (hours : List ℕ) (at number : ℕ) : Type 0 where
-  pub first : number % 256 ≡ get_or hours at 0
-  pub second : number / 256 % 256 ≡ get_or hours (at + 1) 0
-  pub third : number / 65536 % 256 ≡ get_or hours (at + 2) 0
-  pub fourth : number / 16777216 % 256 ≡ get_or hours (at + 3) 0
+-- a number whose lowest four bytes, the lowest first, are four hours
+pub record FourHours (hours : List ℕ) (number : ℕ) : Type 0 where
+  pub first : number % 256 ≡ get_or hours 0 0
+  pub second : number / 256 % 256 ≡ get_or hours 1 0
+  pub third : number / 65536 % 256 ≡ get_or hours 2 0
+  pub fourth : number / 16777216 % 256 ≡ get_or hours 3 0
 
 -- two numbers, each of three bytes, as one: that of a bid, and that of the bid after it
 pub record Both (first second number : ℕ) : Type 0 where

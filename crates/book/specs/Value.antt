@@ -1,28 +1,34 @@
--- What a book that is a value means: the book of the definitions that its arrays hold, whoever made them; and the number of the first
+-- What a book that is a value means: the book of the definitions that its entries hold, whoever made them; and the number of the first
 -- question that it fails. Entries past the counts, and hours past the kinds, are not looked at. Every contract over such a value speaks of
 -- this file. Assumes nothing: these are definitions.
-use Rattle.std.specs.Prelude.{not, cond, List, ℕ, ◌*◌, min, eqb, get_or}
+use Rattle.std.specs.Prelude.{not, cond, List, [], ℕ, min, eqb, get_or}
 use Rattle.book.specs.Lists.{row}
 use Rattle.book.specs.Book.{Kind, Bid, Book}
 use Rattle.book.specs.Questions.{counts_ranged, entries_refusal}
+use Rattle.book.specs.declared.value.Kind.{Kind as KindValue}
 use Rattle.book.specs.declared.value.Book.{Book as Arrays}
 
--- kind j of the tables of supplies and reserves
-unfoldable pub kind_held : (supply reserve : List ℕ) → (j : ℕ) → Kind
-kind_held ss rs j = record { supply = get_or ss j 0; reserve = get_or rs j 0 }
+-- what is read past the last kind
+abbrev pub zero_kind : KindValue
+zero_kind = record { supply = 0; reserve = 0 }
+
+-- the kind that an entry holds
+unfoldable pub kind_of : KindValue → Kind
+kind_of x = record { supply = x.supply; reserve = x.reserve }
 
 -- the status of the client at place c: withdrawn where its cap is 0, else standing
 unfoldable pub status_held : (caps : List ℕ) → (c : ℕ) → ℕ
 status_held cs c = cond (eqb (get_or cs c 0) 0) 1 0
 
--- the bid at place i, over k kinds: its hours stand from place 4 i on
-unfoldable pub bid_held : (k : ℕ) → (client hours amount : List ℕ) → (i : ℕ) → Bid
-bid_held k cs hs xs i = record { client = get_or cs i 0; hours = row k (4 * i) (λ p. get_or hs p 0); amount = get_or xs i 0 }
+-- the bid at place i, over k kinds
+unfoldable pub bid_held : (k : ℕ) → (client : List ℕ) → (hours : List (List ℕ)) → (amount : List ℕ) → (i : ℕ) → Bid
+bid_held k cs hs xs i =
+    record { client = get_or cs i 0; hours = row k 0 (λ j. get_or (get_or hs i []) j 0); amount = get_or xs i 0 }
 
 -- THE BOOK, with as many kinds, clients and bids as the counts say and the arrays have room for
 unfoldable pub book_of : Arrays → Book
 book_of v = record {
-  kinds = row (min v.k 4) 0 (kind_held v.supply v.reserve);
+  kinds = row (min v.k 4) 0 (λ j. kind_of (get_or v.kinds j zero_kind));
   statuses = row (min v.n 6) 0 (status_held v.caps);
   bids = row (min v.m 48) 0 (bid_held (min v.k 4) v.client v.hours v.amount);
 }

@@ -1,6 +1,6 @@
 // Question 4, of each bid of a book by itself. The loop ends with the first bid that is not good.
-ghost use Rattle.std.specs.Prelude.{◌≡◌, ◌&&◌, ℕ, ◌-◌, ◌≤◌, ◌^◌, leb, take};
-ghost use Rattle.book.specs.Lists.{within as within_range, all, total};
+ghost use Rattle.std.specs.Prelude.{◌≡◌, ◌&&◌, ℕ, ◌-◌, ◌≤◌, ◌^◌, leb, get_or};
+ghost use Rattle.book.specs.Lists.{within as within_range, all, row, total};
 ghost use Rattle.book.specs.Book.{clients};
 ghost use Rattle.book.specs.Questions.{bid_good};
 ghost use Rattle.book.specs.Value.{book_of};
@@ -24,7 +24,7 @@ fn least_with_hours(k: usize) -> u64
 
 // Whether four hours, as one number, reach the least that has an hour among the first k.
 fn is_hour_asked(least: u64, hours: [u8; 4]) -> bool
-    ensures { (k : ℕ) → k ≤ 4 → least ≡ 256 ^ (4 - k) → result ≡ leb 1 (total (take k hours)) }
+    ensures { (k : ℕ) → k ≤ 4 → least ≡ 256 ^ (4 - k) → result ≡ leb 1 (total (row k 0 (λ j. get_or hours j 0))) }
 {
     least <= u64::from(u32::from_be_bytes(hours))
 }
@@ -42,17 +42,10 @@ fn is_bid_good(client: u8, asks: bool, amount: u32, n: usize) -> bool
 pub(crate) fn every_bid_good(book: &Book) -> bool
     ensures { let b = book_of book.now in result ≡ all (bid_good (clients b)) b.bids }
 {
-    let least = least_with_hours(book.kinds());
-    let n = book.clients();
-    for i in 0..book.bids() {
-        let at = 4 * i;
-        let hours = [
-            book.hours[at],
-            book.hours[at + 1],
-            book.hours[at + 2],
-            book.hours[at + 3],
-        ];
-        let asks = is_hour_asked(least, hours);
+    let least = least_with_hours(book.kind_count());
+    let n = book.client_count();
+    for i in 0..book.bid_count() {
+        let asks = is_hour_asked(least, book.hours[i]);
         if !is_bid_good(book.client[i], asks, book.amount[i], n) {
             return false;
         }

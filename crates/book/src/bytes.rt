@@ -15,6 +15,7 @@ fn has_room(bytes: &[u8], at: usize, n: usize) -> bool
     n <= bytes.len() && at <= bytes.len() - n
 }
 
+#[tactic(auto, using(crate::proofs::Fields::field_four))]
 pub(crate) fn four_in(bytes: &[u8], at: usize) -> u32
     requires { at + 4 ≤ length bytes.now }
     ensures { result ≡ field at 4 bytes.now }
@@ -22,6 +23,7 @@ pub(crate) fn four_in(bytes: &[u8], at: usize) -> u32
     u32::from_be_bytes([bytes[at], bytes[at + 1], bytes[at + 2], bytes[at + 3]])
 }
 
+#[tactic(auto, using(crate::proofs::Fields::field_eight))]
 fn eight_in(bytes: &[u8], at: usize) -> u64
     requires { at + 8 ≤ length bytes.now }
     ensures { result ≡ field at 8 bytes.now }
@@ -39,6 +41,7 @@ fn eight_in(bytes: &[u8], at: usize) -> u64
 }
 
 // Where a number may end past the bytes it is read half by half.
+#[tactic(auto, using(crate::proofs::Fields::field_past, crate::proofs::Fields::field_two))]
 pub fn u16_at(bytes: &[u8], at: usize) -> u16
     ensures { result ≡ field at 2 bytes.now }
 {

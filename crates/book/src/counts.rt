@@ -13,6 +13,7 @@ const VERSION: u8 = 1;
 const HEAD: usize = 3;
 
 // Whether x is from low to high.
+#[tactic(auto, unfolding(crate::specs::Lists::within))]
 pub(crate) fn within(low: usize, x: usize, high: usize) -> bool
     ensures tested { result ≡ within_range low x high }
     ensures inside { result ≡ true → (low ≤ x) × (x ≤ high) }
@@ -21,6 +22,7 @@ pub(crate) fn within(low: usize, x: usize, high: usize) -> bool
 }
 
 // Question 1.
+#[tactic(auto, unfolding(crate::specs::Questions::version_good))]
 pub(crate) fn is_version_good(input: &[u8]) -> bool
     ensures { result ≡ version_good input.now }
 {
@@ -28,6 +30,7 @@ pub(crate) fn is_version_good(input: &[u8]) -> bool
 }
 
 // Whether each count is in its range.
+#[tactic(auto, unfolding(crate::specs::Questions::counts_ranged))]
 pub(crate) fn are_counts_ranged(k: usize, n: usize, m: usize) -> bool
     ensures { result ≡ counts_ranged k n m }
 {

@@ -1,39 +1,36 @@
 // A book's entries put from its bytes into arrays, with zeros past the counts and for hours past the kinds (specs/Reading.antt). The loop
 // over bids tests no length: the caller has put question 2, so that the bids stand inside the bytes.
-ghost use Rattle.std.specs.Prelude.{◌≡◌, true, replicate};
+ghost use Rattle.std.specs.Prelude.{◌≡◌, ◌<◌, true, replicate};
 ghost use Rattle.sets.specs.Tables.{tabulate};
-ghost use Rattle.book.specs.Layout.{book_in};
+ghost use Rattle.book.specs.Layout.{kind_here, book_in};
 ghost use Rattle.book.specs.Questions.{counts_good};
-ghost use Rattle.book.specs.Reading.{cap_of, arrays_of};
+ghost use Rattle.book.specs.Reading.{cap_of, kind_entry, arrays_of};
 
 use crate::layout::{BESIDE_HOURS, FIRST_KIND, KIND};
-use crate::value::Book;
+use crate::value::{Book, Kind};
 use crate::{bytes, kinds, layout};
 
-// Where the first reserve stands: after the first supply.
-const FIRST_RESERVE: usize = 5;
-
-// The supplies of the kinds.
-pub(crate) fn supplies(input: &[u8]) -> [u8; 4]
-    ensures { result ≡ (arrays_of (book_in input.now)).supply }
+// The kind at a place: a supply, and after it a reserve.
+#[tactic(auto, unfolding(crate::specs::Layout::kind_here, crate::specs::Reading::kind_entry))]
+fn kind_at(input: &[u8], at: usize) -> Kind
+    requires { at < 1024 }
+    ensures { result ≡ kind_entry (kind_here at input.now) }
 {
-    let k = usize::from(layout::kinds(input));
-    let first = bytes::byte_at(input, FIRST_KIND);
-    let second = bytes::byte_at(input, FIRST_KIND + KIND);
-    let third = bytes::byte_at(input, FIRST_KIND + 2 * KIND);
-    let fourth = bytes::byte_at(input, FIRST_KIND + 3 * KIND);
-    kinds::first_of(k, [first, second, third, fourth])
+    Kind {
+        supply: bytes::byte_at(input, at),
+        reserve: bytes::u16_at(input, at + 1),
+    }
 }
 
-// The reserves of the kinds.
-pub(crate) fn reserves(input: &[u8]) -> [u16; 4]
-    ensures { result ≡ (arrays_of (book_in input.now)).reserve }
+// The kinds.
+pub(crate) fn kinds(input: &[u8]) -> [Kind; 4]
+    ensures { result ≡ (arrays_of (book_in input.now)).kinds }
 {
     let k = usize::from(layout::kinds(input));
-    let first = bytes::u16_at(input, FIRST_RESERVE);
-    let second = bytes::u16_at(input, FIRST_RESERVE + KIND);
-    let third = bytes::u16_at(input, FIRST_RESERVE + 2 * KIND);
-    let fourth = bytes::u16_at(input, FIRST_RESERVE + 3 * KIND);
+    let first = kind_at(input, FIRST_KIND);
+    let second = kind_at(input, FIRST_KIND + KIND);
+    let third = kind_at(input, FIRST_KIND + 2 * KIND);
+    let fourth = kind_at(input, FIRST_KIND + 3 * KIND);
     kinds::first_of(k, [first, second, third, fourth])
 }
 
@@ -46,6 +43,7 @@ const WITHDRAWN: u8 = 1;
 const WHOLE: u16 = 65535;
 
 // The cap of the client at a place: whole where it stands, and 0 where it is withdrawn or past the last.
+#[tactic(auto, unfolding(crate::specs::Reading::cap_of))]
 fn cap_at(statuses: &[u8], client: usize) -> u16
     ensures { result ≡ cap_of statuses.now client }
 {
@@ -54,6 +52,7 @@ fn cap_at(statuses: &[u8], client: usize) -> u16
 }
 
 // The caps of clients with these statuses: single values, as of the kinds (src/kinds.rt).
+#[tactic(auto, unfolding(sets::specs::Tables::tabulate))]
 pub(crate) fn caps(statuses: &[u8]) -> [u16; 6]
     ensures { result ≡ tabulate 6 (cap_of statuses.now) }
 {
@@ -66,12 +65,12 @@ pub(crate) fn caps(statuses: &[u8]) -> [u16; 6]
     [first, second, third, fourth, fifth, sixth]
 }
 
-// The bids, into arrays of zeros: a client, hours in four places, and an amount of each. Four bytes are taken for the hours whatever k is:
+// The bids, into arrays of zeros: a client, four hours and an amount of each. Four bytes are taken for the hours whatever k is:
 // the amount stands after them.
 pub(crate) fn fill_bids(input: &[u8], book: &mut Book)
     requires counts { counts_good input.now ≡ true }
     requires clients { book.old.client ≡ replicate 48 0 }
-    requires hours { book.old.hours ≡ replicate 192 0 }
+    requires hours { book.old.hours ≡ replicate 48 (replicate 4 0) }
     requires amounts { book.old.amount ≡ replicate 48 0 }
     ensures { let held = arrays_of (book_in input.now) in
         book.new ≡ record book.old { client = held.client; hours = held.hours; amount = held.amount } }
@@ -81,13 +80,8 @@ pub(crate) fn fill_bids(input: &[u8], book: &mut Book)
     let long = k + BESIDE_HOURS;
     for i in 0..usize::from(layout::bids(input)) {
         let bid = &input[from + i * long..from + (i + 1) * long];
-        let hours = kinds::first_of(k, [bid[1], bid[2], bid[3], bid[4]]);
-        let four = 4 * i;
         book.client[i] = bid[0];
-        book.hours[four] = hours[0];
-        book.hours[four + 1] = hours[1];
-        book.hours[four + 2] = hours[2];
-        book.hours[four + 3] = hours[3];
+        book.hours[i] = kinds::first_of(k, [bid[1], bid[2], bid[3], bid[4]]);
         book.amount[i] = bytes::four_in(bid, k + 1);
     }
 }

@@ -19,24 +19,28 @@ pub(crate) const KIND: usize = 3;
 // The bytes of a bid beside its hours: a client ahead of them, and four of an amount after them.
 pub(crate) const BESIDE_HOURS: usize = 5;
 
+#[tactic(auto, unfolding(crate::specs::Layout::book_long))]
 pub(crate) fn length(book: &[u8]) -> u16
     ensures { result ≡ book_long book.now }
 {
     bytes::u16_at(book, LENGTH)
 }
 
+#[tactic(auto, unfolding(crate::specs::Layout::k_of))]
 pub(crate) fn kinds(book: &[u8]) -> u8
     ensures { result ≡ k_of book.now }
 {
     bytes::byte_at(book, KINDS)
 }
 
+#[tactic(auto, unfolding(crate::specs::Layout::n_of))]
 pub(crate) fn clients(book: &[u8]) -> u8
     ensures { result ≡ n_of book.now }
 {
     bytes::byte_at(book, FIRST_KIND + KIND * usize::from(kinds(book)))
 }
 
+#[tactic(auto, unfolding(crate::specs::Layout::statuses_from))]
 pub(crate) fn statuses_from(book: &[u8]) -> usize
     ensures place { result ≡ statuses_from book.now }
     ensures low { result < 1024 }
@@ -44,12 +48,14 @@ pub(crate) fn statuses_from(book: &[u8]) -> usize
     FIRST_KIND + KIND * usize::from(kinds(book)) + 1
 }
 
+#[tactic(auto, unfolding(crate::specs::Layout::statuses_from, crate::specs::Layout::m_of))]
 pub(crate) fn bids(book: &[u8]) -> u8
     ensures { result ≡ m_of book.now }
 {
     bytes::byte_at(book, statuses_from(book) + usize::from(clients(book)))
 }
 
+#[tactic(auto, unfolding(crate::specs::Layout::statuses_from, crate::specs::Layout::bids_from))]
 pub(crate) fn bids_from(book: &[u8]) -> usize
     ensures place { result ≡ bids_from book.now }
     ensures low { result < 2048 }

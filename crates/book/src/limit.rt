@@ -17,19 +17,15 @@ fn bids_of(who: u8, clients: &[u8]) -> u8
     requires { length clients.now ≤ 48 }
     ensures { result ≡ named who clients.now }
 {
-    let mut count: u8 = 0;
-    for &client in clients {
-        count += u8::from(client == who);
-    }
-    count
+    clients.iter().map(|&client| u8::from(client == who)).sum()
 }
 
 // No client has more than eight bids.
 pub(crate) fn few_for_each(book: &Book) -> bool
     ensures { let b = book_of book.now in result ≡ all_to (clients b) (few_bids b.bids) }
 {
-    let bids = &book.client[..book.bids()];
-    for client in 1..=book.clients() {
+    let bids = &book.client[..book.bid_count()];
+    for client in 1..=book.client_count() {
         if MOST_EACH < bids_of(client as u8, bids) {
             return false;
         }

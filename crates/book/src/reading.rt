@@ -7,7 +7,7 @@ use crate::{counts, filling, layout, tables, test_of_value};
 use questions::Question;
 
 // The length that the book gives itself, and the book.
-#[derive(Clone, Copy)]
+#[derive(Clone, Copy, Default)]
 #[repr(C)]
 pub struct Reading {
     pub length: u16,
@@ -25,24 +25,22 @@ pub fn read(input: &[u8]) -> Result<Reading, Question>
         return Err(Question::Counts);
     }
     let k = layout::kinds(input);
-    let supply = filling::supplies(input);
-    let reserve = filling::reserves(input);
+    let kinds = filling::kinds(input);
     let statuses = layout::statuses(input);
-    let kinds = tables::kinds_good(usize::from(k), supply, reserve);
-    if !(kinds & tables::statuses_good(statuses)) {
+    let kinds_good = tables::kinds_good(&kinds[..usize::from(k)]);
+    if !(kinds_good & tables::statuses_good(statuses)) {
         return Err(Question::Tables);
     }
     let mut reading = Reading {
         length: layout::length(input),
         book: Book {
             k,
-            supply,
-            reserve,
+            kinds,
             n: layout::clients(input),
             caps: filling::caps(statuses),
             m: layout::bids(input),
             client: [0; 48],
-            hours: [0; 192],
+            hours: [[0; 4]; 48],
             amount: [0; 48],
         },
     };

@@ -10,6 +10,7 @@ use crate::{asked, limit, paid};
 use questions::Question;
 
 // The first of questions 4 and 5 that is answered no. What comes after it is not looked at.
+#[tactic(auto, unfolding(crate::specs::Room::bids_refusal))]
 pub(crate) fn bids(book: &Book) -> Result<(), Question>
     ensures { let b = book_of book.now in number_in result ≡ bids_refusal (clients b) b.kinds b.bids }
 {

@@ -18,7 +18,7 @@ pub(crate) fn sets_tight(f: Figures, sigma: [u64; 64]) -> Result<bool, Question>
     ensures within { (ρ : ℕ → ℕ) → number_in result ≡ cond (test within_sets (certificate f) (at sigma) ρ) 0 11 }
     ensures slack { IfOk result (λ tight. (ρ : ℕ → ℕ) → tight ≡ test slack_sets (certificate f) (at sigma) ρ) }
 {
-    let w = f.w as usize;
+    let w = f.winners();
     let mut within = true;
     let mut tight = true;
     for set in 1..sets_end(w) {

@@ -31,7 +31,7 @@ pub(crate) fn bounds_met(f: Figures, sigma: [u64; 64], rho: [u64; 6]) -> Result<
     ensures ready { IfOk result (λ tight. Ready (certificate f) (at sigma) (at rho)) }
     ensures slack { IfOk result (λ tight. tight ≡ slack_test (certificate f) (at sigma) (at rho)) }
 {
-    let ranged = in_range(f) && tables_fit(f.w, &sigma, &rho);
+    let ranged = in_range(f) && tables_fit(&f, &sigma, &rho);
     ask(ranged, Question::Ranges)?;
     let sets = sets_tight(f, sigma)?;
     Ok(sets & winners_slack(f, rho))

@@ -14,7 +14,7 @@ pub(crate) fn all_covered(f: Figures) -> bool
     requires { Ranges (certificate f) }
     ensures { (σ ρ : ℕ → ℕ) → result ≡ test cover (certificate f) σ ρ }
 {
-    let w = f.w as usize;
+    let w = f.winners();
     let mut ok = true;
     for j in 0..w {
         ok &= f.s <= f.z[j] + held(w, j, &f.y);
@@ -28,7 +28,7 @@ pub(crate) fn totals_meet(f: Figures, sigma: [u64; 64], rho: [u64; 6]) -> bool
     requires { Ready (certificate f) (at sigma) (at rho) }
     ensures { result ≡ test totals (certificate f) (at sigma) (at rho) }
 {
-    let w = f.w as usize;
+    let w = f.winners();
     let sets = sets_weighed(w, &f.y, &sigma);
     let mut winners = 0;
     let mut given = 0;

@@ -3,8 +3,8 @@
 // They ask nothing of their caller. Each answers `Ok`, or its first question whose answer is no.
 // EACH ANSWERS `Ranges`, question 7, where something that it reads is out of range: a figure of the certificate, but also a σ above
 // 6,000,000 or a ρ above 1,000,000, which no book gives. A caller with bounds of another kind must look for that answer.
-// A client may cite their contracts, the laws of the numbers in proofs/Refusals and proofs/DiscountRefusals, and the laws of ranges in
-// proofs/InRange.
+// A client may cite their contracts and that of `Figures::winners`, the laws of the numbers in proofs/Refusals and
+// proofs/DiscountRefusals, and the laws of ranges in proofs/InRange.
 #![tactic(auto)]
 
 ghost use Rattle.std.specs.Prelude.{◌≡◌};

@@ -47,7 +47,7 @@ fn winners_in_range(f: &Figures) -> bool
     requires { f.now.w ≤ most_winners }
     ensures { result ≡ winners_in_range f.now.w (at f.now.x) (at f.now.z) (at f.now.r) (at f.now.t) }
 {
-    let w = f.w as usize;
+    let w = f.winners();
     at_most(&f.x[..w], MOST_DISCOUNT)
         & at_most(&f.z[..w], MOST_SCALE)
         & at_most(&f.r[..w], MOST_MULTIPLIER)
@@ -60,7 +60,7 @@ fn sets_in_range(f: &Figures) -> bool
     requires { f.now.w ≤ most_winners }
     ensures { result ≡ sets_in_range f.now.w (at f.now.y) (at f.now.u) }
 {
-    let end = sets_end(f.w as usize);
+    let end = sets_end(f.winners());
     at_most(&f.y[1..end], MOST_SCALE) & at_most(&f.u[1..end], MOST_MULTIPLIER)
 }
 
@@ -74,14 +74,12 @@ pub(crate) fn in_range(f: Figures) -> bool
 
 // The tables of sets and winners.
 #[tactic(auto, using(crate::proofs::Parts::winners_part, crate::proofs::Parts::sets_part), unfolding(crate::specs::Bounds::tables_fit))]
-pub(crate) fn tables_fit(w: u64, sigma: &[u64; 64], rho: &[u64; 6]) -> bool
-    ensures { result ≡ tables_fit w (at sigma.now) (at rho.now) }
+pub(crate) fn tables_fit(f: &Figures, sigma: &[u64; 64], rho: &[u64; 6]) -> bool
+    ensures { result ≡ tables_fit f.now.w (at sigma.now) (at rho.now) }
 {
-    if w > MOST_WINNERS {
-        return false;
-    }
-    let w = w as usize;
-    at_most(&sigma[1..sets_end(w)], MOST_SIGMA) & at_most(&rho[..w], MOST_RHO)
+    let w = f.winners();
+    f.w <= MOST_WINNERS
+        && at_most(&sigma[1..sets_end(w)], MOST_SIGMA) & at_most(&rho[..w], MOST_RHO)
 }
 
 // What question 10 reads.

@@ -14,7 +14,7 @@ pub(crate) fn all_balanced(f: Figures, sigma: [u64; 64]) -> bool
     requires { SetsReady (certificate f) (at sigma) }
     ensures { (ρ : ℕ → ℕ) → result ≡ test stationary (certificate f) (at sigma) ρ }
 {
-    let w = f.w as usize;
+    let w = f.winners();
     let above = part_above(f.g);
     let below = part_below(f.g);
     let mut ok = true;

@@ -1,5 +1,5 @@
 // An auction certificate in arrays by value, and question 7: whether its figures are in range.
-ghost use Rattle.std.specs.Prelude.{◌≡◌, cond};
+ghost use Rattle.std.specs.Prelude.{◌≡◌, cond, min};
 ghost use Rattle.questions.specs.Numbers.{number_in};
 ghost use Rattle.pricing.specs.Ranges.{in_range};
 ghost use Rattle.certificate.specs.Figures.{certificate};
@@ -10,7 +10,7 @@ use questions::Question;
 
 // A certificate: w winners, the denominators q and s, the 64 bits of G in two's complement, then x, z, r and t by winner, y and u by
 // the set's number. Entries from w up, set 0 and sets from 2^w up are not looked at.
-#[derive(Clone, Copy)]
+#[derive(Clone, Copy, Default)]
 pub struct Figures {
     pub w: u64,
     pub q: u64,
@@ -22,6 +22,15 @@ pub struct Figures {
     pub t: [u64; 6],
     pub y: [u64; 64],
     pub u: [u64; 64],
+}
+
+impl Figures {
+    // The number of winners that are looked at: the arrays have room for six. That no loop goes further is plain to a compiler by this.
+    pub fn winners(&self) -> usize
+        ensures { result ≡ min self.now.w 6 }
+    {
+        self.w.min(6) as usize
+    }
 }
 
 // Question 7.

@@ -21,7 +21,7 @@ pub(crate) fn winners_slack(f: Figures, rho: [u64; 6]) -> bool
     ensures { (σ : ℕ → ℕ) → result
         ≡ (test slack_reserve (certificate f) σ (at rho) && test slack_zero (certificate f) σ (at rho)) }
 {
-    let w = f.w as usize;
+    let w = f.winners();
     let mut reserves = true;
     let mut zeros = true;
     for j in 0..w {

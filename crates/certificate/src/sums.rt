@@ -1,22 +1,13 @@
 // Sums over the members of a set, over the sets that hold a winner, and over all sets: there are at most 63 non-empty ones. Bit k of a
 // set's number stands for winner k.
-ghost use Rattle.std.specs.Prelude.{◌≡◌, ◌≤◌, ◌<◌, ◌*◌};
-ghost use Rattle.sets.specs.Sets.{has, sum_in, over_sets, holding};
+ghost use Rattle.std.specs.Prelude.{◌≡◌, ◌≤◌, ◌*◌};
+ghost use Rattle.sets.specs.Sets.{sum_in, over_sets, holding};
 ghost use Rattle.certificate.specs.Figures.{at};
 ghost use Rattle.pricing.specs.Ranges.{most_scale, most_multiplier};
 ghost use Rattle.certificate.specs.Bounds.{most_sigma};
 ghost use Rattle.certificate.specs.Readiness.{WinnersAdd, HoldingAdd, SetsWeigh};
 
-use numbers::{sets_end, share};
-
-// Whether a set holds winner k.
-#[tactic(auto, using(sets::proofs::Members::and_mask), unfolding(sets::specs::Sets::has))]
-fn has(set: usize, k: usize) -> bool
-    requires { k < 64 }
-    ensures { result ≡ has set k }
-{
-    (set >> k) & 1 == 1
-}
+use numbers::{has, sets_end, share};
 
 // The sum over the members of a set.
 #[tactic(auto, using(crate::proofs::Steps::steps), unfolding(sets::specs::Sets::sum_in))]

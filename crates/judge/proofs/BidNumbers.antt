@@ -1,15 +1,14 @@
 -- The sheet's bid numbers as the array that is filled with them, and the array's first as the sheet's. Cited by the proofs of the sheet's
 -- reader. Assumes nothing.
-use mathlib.Core.Path.{◌≡◌, sym, ap, fun_ext, ◌∙◌}
+use mathlib.Core.Path.{◌≡◌, sym, ◌∙◌}
 use mathlib.Core.List.{List}
-use Prim.Native.Nat.{ℕ, ◌+◌, ◌≤◌, min}
+use Prim.Native.Nat.{ℕ, ◌+◌, ◌≤◌, ◌<◌}
 use native.Mathlib.Decide.{dec_lt}
 use native.Mathlib.Omega.{arith}
-use lib.ListN.{length, take, get_or-eq_default}
+use lib.ListN.{length, get_or, take, get_or-eq_default}
 use lib.Seq.{ext_get_or, get_or-take, length-take-le}
 use Rattle.sets.specs.Tables.{tabulate}
-use Rattle.sets.proofs.Filled.{Filled}
-use Rattle.sets.proofs.Tables.{tabulate_length, tabulate_at, filled_table}
+use Rattle.sets.proofs.Tables.{tabulate_length, tabulate_at}
 use Rattle.market.specs.Market.{at}
 use Rattle.book.specs.Bytes.{byte, bytes_at}
 use Rattle.book.proofs.Next.{bytes_length}
@@ -36,12 +35,12 @@ table_front n w xs long l =
     (λ k h. get_or-take w table k 0 (omega arith) ∙ tabulate_at n (at xs) k 0 (omega arith))
 
 module _ (part : List ℕ) where
-  pub bids_filled : (few : ℕ) (xs : List ℕ) → few ≡ min (sheet_w part) 6 → Filled 6 (λ k. byte (4 + k) part) few xs
+  pub bids_filled : (xs : List ℕ) → length xs ≡ 6 → ((j : ℕ) → j < 6 → get_or xs j 0 ≡ of_winner (sheet_w part) (λ k. byte (4 + k) part) j)
       → xs ≡ tabulate 6 (at (sheet_in part).bids)
-  unfolding sheet_in of_winner
-  bids_filled few xs e f =
-      filled_table 6 (λ k. byte (4 + k) part) (sheet_w part) few xs e f
-      ∙ ap (tabulate 6) (fun_ext (bytes_each (sheet_w part) 4 part))
+  unfolding sheet_in
+  bids_filled xs long each =
+      ext_get_or 0 xs _ (long ∙ sym (tabulate_length 6 _))
+      (λ j l. let m : j < 6 = omega (arith, long) in each j m ∙ bytes_each (sheet_w part) 4 part j ∙ sym (tabulate_at 6 _ j 0 m))
 
   pub bids_front : sheet_w part ≤ 6 → take (sheet_w part) (tabulate 6 (at (sheet_in part).bids)) ≡ (sheet_in part).bids
   unfolding sheet_in

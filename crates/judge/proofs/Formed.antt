@@ -1,5 +1,5 @@
--- Question 6 by the number of winners: refused at once where there are too many, else decided by version and lengths. Cited by the proof of
--- the test. Assumes nothing.
+-- Question 6 by the number of winners: refused at once where there are too many, else decided by version and lengths. Cited by the
+-- attribute of the test. Assumes nothing.
 use mathlib.Core.Path.{◌≡◌, refl}
 use mathlib.Core.Bool.{Bool, true, false, ◌&&◌}
 use mathlib.Core.List.{List}
@@ -31,3 +31,6 @@ module _ (b : Book) (n : ℕ) (bs : List ℕ) (e : clients b ≡ min n 6) where
       && (eqb (sheet_long bs) (sheet_formula (sheet_w bs)) && eqb (length bs) (sheet_formula (sheet_w bs)))) ≡ form_good b bs
   unfolding form_good
   few_decided l = rw (le-leb (sheet_w bs) (clients b) (omega arith)) (middle_yes (leb 4 (length bs) && eqb (byte 0 bs) 1) _)
+
+-- what the attribute of the test cites
+pub ruleset form_tests = (many_refused, few_decided)

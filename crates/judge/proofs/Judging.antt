@@ -1,17 +1,19 @@
 -- Whatever answers with the definitions' answer keeps every promise (judgement), and what is answered to a call by where it is refused.
--- Cited by the laws of the sheet's parts and by the proofs of src/lib.rt. Assumes nothing.
+-- Cited by the laws of the sheet's parts and by the attributes of src/lib.rt. Assumes nothing.
 use mathlib.Core.Path.{◌≡◌, sym, ap, ◌∙◌}
 use mathlib.Core.Bool.{true, false}
+use mathlib.Core.List.{List}
 use mathlib.Core.Logic.{inl, inr, ⊎_elim}
 use Prim.Native.Nat.{ℕ, ◌≤◌, ◌<◌}
 use native.Mathlib.Nat.{le_trans, le_of_eq}
 use native.Mathlib.Omega.{arith}
 use borrow.Author.Tests.{ne_eqb}
-use Rattle.demands.specs.Call.{Call, sheet, call_refusal, Accepted}
+use Rattle.book.specs.declared.value.Book.{Book as Arrays}
+use Rattle.demands.specs.Call.{Call, sheet, call_refusal, call_of, Accepted}
 use Rattle.demands.specs.Questions.{form_good, judged}
 use Rattle.demands.specs.Answer.{Answer, answer_of, acceptance, refusal}
 use Rattle.demands.specs.Promise.{Demand1}
-use Rattle.demands.proofs.Judgeable.{Judgeable}
+use Rattle.demands.proofs.Judgeable.{Judgeable, value_judgeable}
 use Rattle.demands.proofs.Promise.{demand_1, demand_2, demand_3}
 use Rattle.demands.proofs.Answer.{answer_accepted, answer_refused, answered}
 use Rattle.judge.specs.declared.prices.Prices.{Prices}
@@ -32,6 +34,10 @@ judgement c j r e =
       priced = λ z. rw e ((answered c).priced (sym number ∙ z));
       demand_3 = demand_3 c j;
     }
+
+-- of a book that is a value
+pub value_judgement : (v : Arrays) (part : List ℕ) (r : Prices) → answer_in r ≡ answer_of (call_of v part) → Judgement (call_of v part) r
+value_judgement v part = judgement (call_of v part) (value_judgeable v part)
 
 module _ (c : Call) where
   refused_with : (n : ℕ) → call_refusal c ≡ n → 0 < n → refusal n ≡ answer_of c

@@ -1,41 +1,26 @@
 -- What the bytes of a sheet give over a book that is a value: a refusal by question 6, or the sheet that arrays hold, and the answer to it.
--- Cited by the proof of `judged`. Assumes nothing.
+-- Cited by the proof and the attribute of `judged`. Assumes nothing.
 use mathlib.Core.Path.{◌≡◌, sym, ap, ◌∙◌}
 use mathlib.Core.Bool.{true}
 use mathlib.Core.List.{List}
 use Prim.Native.Nat.{ℕ, ◌≤◌, ◌<◌, min}
 use native.Mathlib.Omega.{arith}
-use lib.ListN.{length}
-use Rattle.sets.proofs.Tables.{tabulate_length}
 use Rattle.std.specs.Prelude.{Ok, Err}
 use Rattle.questions.specs.Numbers.{number_of}
 use Rattle.questions.specs.declared.Question.{Question}
 use Rattle.questions.proofs.Numbers.{number_range}
-use Rattle.book.specs.Book.{Book, clients}
+use Rattle.book.specs.Book.{clients}
 use Rattle.book.specs.Value.{book_of, sound_number}
 use Rattle.book.specs.declared.value.Book.{Book as Arrays}
 use Rattle.book.proofs.Held.{held_clients}
-use Rattle.certificate.specs.Figures.{certificate}
-use Rattle.certificate.specs.InRange.{Ranges}
-use Rattle.certificate.specs.declared.ranges.Figures.{Figures}
-use Rattle.certificate.proofs.InRange.{in_range_iff}
 use Rattle.demands.specs.Sheet.{sheet_in}
 use Rattle.demands.specs.Call.{call_of}
 use Rattle.demands.specs.Questions.{form_good, judged}
 use Rattle.demands.specs.Answer.{acceptance, refusal, answer_of}
-use Rattle.demands.proofs.Passed.{judged_passed}
-use Rattle.judge.specs.Reading.{sheet_held, SheetRead}
+use Rattle.judge.specs.Reading.{sheet_of, SheetRead}
 use Rattle.judge.specs.declared.sheet.SheetReading.{SheetReading}
 use Rattle.judge.proofs.Judging.{refused_form, refused_sheet, accepted_sheet}
 use Rattle.judge.proofs.NumberedTests.{answered_no, answered_yes}
-
--- a sheet is read into six bid numbers
-pub six_bids : (part : List ℕ) (n : ℕ) (s : SheetReading) → SheetRead part n (Ok s) → length s.bids ≡ 6
-six_bids part n s read = ap length read.bids ∙ tabulate_length 6 _
-
--- figures that are accepted are in range
-pub held_ranges : (b : Book) (bids : List ℕ) (f : Figures) (n : ℕ) → n ≡ judged b (sheet_held bids f) → n ≤ 0 → Ranges (certificate f)
-held_ranges b bids f n e l = (in_range_iff (certificate f)).0 (judged_passed b (sheet_held bids f) (omega arith)).ranges
 
 module _ (v : Arrays) (part : List ℕ) (sound : sound_number v ≡ 0) (n : ℕ) (of_n : n ≡ v.n) where
   -- the number of clients, as question 6 takes it
@@ -47,7 +32,7 @@ module _ (v : Arrays) (part : List ℕ) (sound : sound_number v ≡ 0) (n : ℕ)
       let no = answered_no (form_good (book_of v) part) 6 (number_of q) (read.numbered (book_of v) clients_here) (number_range q).0 in
       ap refusal no.1 ∙ refused_form (call_of v part) sound no.0
 
-  module _ (s : SheetReading) (read : SheetRead part n (Ok s)) (m : ℕ) (e : m ≡ judged (book_of v) (sheet_held s.bids s.figures)) where
+  module _ (s : SheetReading) (read : SheetRead part n (Ok s)) (m : ℕ) (e : m ≡ judged (book_of v) (sheet_of s)) where
     form_yes : form_good (book_of v) part ≡ true
     form_yes =
         answered_yes (form_good (book_of v) part) 6 0 (omega arith) (read.numbered (book_of v) clients_here) (omega arith)
@@ -58,5 +43,5 @@ module _ (v : Arrays) (part : List ℕ) (sound : sound_number v ≡ 0) (n : ℕ)
     pub sheet_no : 0 < m → refusal m ≡ answer_of (call_of v part)
     sheet_no = refused_sheet (call_of v part) sound form_yes m judged_part
 
-    pub sheet_yes : m ≤ 0 → acceptance (book_of v) (sheet_held s.bids s.figures) ≡ answer_of (call_of v part)
+    pub sheet_yes : m ≤ 0 → acceptance (book_of v) (sheet_of s) ≡ answer_of (call_of v part)
     sheet_yes l = ap (acceptance (book_of v)) read.held ∙ accepted_sheet (call_of v part) sound form_yes m judged_part l

@@ -1,5 +1,5 @@
--- A book that was read from an input, with the bytes that follow it, is the call of the input. Cited by the proof of `judged_input`, and by
--- crates above that read an input themselves. Assumes nothing.
+-- A book that was read from an input, with the bytes that follow it, is the call of the input. Cited by the attribute of `judged_input`,
+-- and by crates above that read an input themselves. Assumes nothing.
 use mathlib.Core.Path.{◌≡◌, ap, ◌∙◌}
 use mathlib.Core.List.{List}
 use Prim.Native.Nat.{ℕ, ◌-◌}

@@ -20,10 +20,14 @@ FormIs part n good = (b : Book) → clients b ≡ min n 6 → good ≡ form_good
 abbrev pub sheet_held : (bids : List ℕ) → Figures → Sheet
 sheet_held is f = record { bids = take f.w is; numbers = certificate f }
 
+-- the sheet that was read into them
+abbrev pub sheet_of : SheetReading → Sheet
+sheet_of s = sheet_held s.bids s.figures
+
 -- what is read of the bytes after a book of n clients
 pub record SheetRead (part : List ℕ) (n : ℕ) (r : Result SheetReading Question) : Type 0 where
   -- the sheet where question 6 is answered by yes, else its number
   pub numbered : (b : Book) → clients b ≡ min n 6 → number_in r ≡ cond (form_good b part) 0 6
   -- the sheet's bid numbers with zeros after them, and with the figures the sheet
   pub bids : IfOk r (λ s. s.bids ≡ tabulate 6 (at (sheet_in part).bids))
-  pub held : IfOk r (λ s. sheet_held s.bids s.figures ≡ sheet_in part)
+  pub held : IfOk r (λ s. sheet_of s ≡ sheet_in part)

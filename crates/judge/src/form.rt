@@ -1,5 +1,5 @@
 // Question 6 put to what follows a book: version, length and number of winners.
-ghost use Rattle.std.specs.Prelude.{◌≡◌, ◌≤◌};
+ghost use Rattle.std.specs.Prelude.{◌≡◌, ◌≤◌, true, false, MatchOption};
 ghost use Rattle.demands.specs.Sheet.{sheet_w, sheet_formula};
 ghost use Rattle.judge.specs.Reading.{FormIs};
 
@@ -22,18 +22,20 @@ fn length_of(w: usize) -> usize
     20 + 29 * w + 12 * (numbers::sets_end(w) - 1)
 }
 
-// Question 6 over a book of n clients, and with at most six winners, since a sheet is read into arrays of six. The version stands at place
-// 0 and the length at 1; there are four bytes at least.
-pub(crate) fn is_form_good(part: &[u8], n: usize) -> bool
-    ensures { FormIs part.now n result }
+// The number of winners where question 6 over a book of n clients is answered by yes; with at most six winners, since a sheet is read into
+// arrays of six. The version stands at place 0 and the length at 1; there are four bytes at least.
+#[tactic(auto, using(crate::proofs::Formed::form_tests), unfolding(demands::specs::Sheet::sheet_long))]
+pub(crate) fn winners_in_form(part: &[u8], n: usize) -> Option<usize>
+    ensures { MatchOption result (FormIs part.now n false) (λ w. FormIs part.now n true × (w ≡ sheet_w part.now)) }
 {
     let w = winners_of(part);
     if n.min(6) < w {
-        return false;
+        return None;
     }
     let version = bytes::byte_at(part, 0);
     let own = usize::from(bytes::u16_at(part, 1));
     let formula = length_of(w);
     let start = (4 <= part.len()) & (version == 1);
-    start & ((own == formula) & (part.len() == formula))
+    let good = start & ((own == formula) & (part.len() == formula));
+    good.then_some(w)
 }

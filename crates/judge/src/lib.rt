@@ -11,6 +11,7 @@ mod columns;
 mod figures;
 mod form;
 mod prices;
+mod ranged;
 pub mod sheet;
 
 ghost use Rattle.std.specs.Prelude.{◌≡◌};
@@ -20,11 +21,13 @@ ghost use Rattle.judge.specs.Chain.{answer_with};
 ghost use Rattle.judge.specs.Judgement.{Judgement};
 
 use book::{Book, SoundBook};
+use prices::Accepted;
 pub use prices::Prices;
 use questions::Question;
 
 // Questions 1 to 15 of an input, and the prices.
-fn judged_input(input: &[u8]) -> Result<Prices, Question>
+#[tactic(auto, using(crate::proofs::Judging::refused_book, crate::proofs::Readings::read_call, questions::proofs::Numbers::number_range))]
+fn judged_input(input: &[u8]) -> Result<Accepted, Question>
     ensures { answer_with result ≡ answer_of (call_in input.now) }
 {
     let reading = book::read(input)?;
@@ -37,7 +40,7 @@ fn judged_input(input: &[u8]) -> Result<Prices, Question>
 
 // Questions 2 to 15 of a book that is a value and the bytes of a sheet, and the prices.
 #[tactic(auto, using(crate::proofs::Judging::refused_book, questions::proofs::Numbers::number_range))]
-fn judged_value(book: &Book, part: &[u8]) -> Result<Prices, Question>
+fn judged_value(book: &Book, part: &[u8]) -> Result<Accepted, Question>
     ensures { answer_with result ≡ answer_of (call_of book.now part.now) }
 {
     chain::judged(book.sound()?, part)
@@ -48,19 +51,21 @@ fn judged_value(book: &Book, part: &[u8]) -> Result<Prices, Question>
 pub fn judge_sheet(input: &[u8]) -> Prices
     ensures { Judgement (call_in input.now) result }
 {
-    judged_input(input).unwrap_or_else(prices::refused)
+    judged_input(input).into()
 }
 
 // Questions 2 to 5 of a book that is a value, then 6 to 15 of the bytes of a sheet.
+#[tactic(auto, using(crate::proofs::Judging::value_judgement))]
 pub fn judge_over(book: &Book, part: &[u8]) -> Prices
     ensures { Judgement (call_of book.now part.now) result }
 {
-    judged_value(book, part).unwrap_or_else(prices::refused)
+    judged_value(book, part).into()
 }
 
 // Questions 6 to 15 of the bytes of a sheet over a sound book.
+#[tactic(auto, using(crate::proofs::Judging::value_judgement))]
 pub fn judge_sound(sound: SoundBook, part: &[u8]) -> Prices
     ensures { Judgement (call_of sound.entry.book.now part.now) result }
 {
-    chain::judged(sound, part).unwrap_or_else(prices::refused)
+    chain::judged(sound, part).into()
 }

@@ -1,7 +1,7 @@
 -- The parts of the printed text, pushed one behind the other: fields, lines, and the lines of the winners.
--- Cited by the proofs of src/lib.rt. Assumes nothing.
+-- Cited by the proofs of the loops of src/lib.rt, and of the whole text. Assumes nothing.
 use mathlib.Core.Path.{◌≡◌, refl, sym, ap, ap₂, ◌∙◌}
-use mathlib.Core.List.{List, [], ◌∷◌, ◌++◌}
+use mathlib.Core.List.{List, ◌++◌}
 use Prim.Native.Nat.{ℕ, zero, suc, ◌+◌, ◌≤◌, ◌<◌, min}
 use native.Mathlib.Numerals.{add-one}
 use native.Mathlib.Omega.{arith}
@@ -11,7 +11,7 @@ use Rattle.std.proofs.lemmas.List.{get_or-take}
 use Rattle.market.specs.Market.{at}
 use Rattle.sets.specs.Tables.{tabulate}
 use Rattle.sets.proofs.Tables.{tabulate_at, tabulate_length}
-use Rattle.book.specs.Book.{Book, client_of}
+use Rattle.book.specs.Book.{Book}
 use Rattle.text.specs.declared.Text.{Text}
 use Rattle.text.specs.Decimal.{decimal}
 use Rattle.text.specs.Text.{pushed, pushes}
@@ -29,12 +29,6 @@ module _ (t u r : Text) where
   unfolding pushes ending
   fields_more ns i within e f =
       rw (add-one i, drop-cons ns i 0 within, f, e) (sym (pushes_append _ (decimal (get_or ns i 0)) (ending (drop (suc i) ns))))
-
-  -- the line of a winner whose client was looked up
-  pub winner_pushed : (b : Book) (bid price client : ℕ) → client ≡ client_of b bid
-      → u ≡ pushes t (decimal client) → r ≡ pushes u (ending (bid ∷ price ∷ [])) → r ≡ pushes t (winner_line b bid price)
-  unfolding winner_line
-  winner_pushed b bid price client c e f = rw (← c) (part_more (decimal client) (ending (bid ∷ price ∷ [])) e f)
 
   -- one winner more
   pub winners_more : (b : Book) (bids prices : List ℕ) (k n bid price : ℕ) → n ≡ k + 1 → bid ≡ at bids k → price ≡ at prices k

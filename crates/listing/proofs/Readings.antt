@@ -1,5 +1,5 @@
 -- What was read of an input, where there was room for more than the longest call, has the input's text; and reading leaves just what the
--- definition says, so the contract of `price_list_of` speaks of every input. Cited by the proof of that function. Assumes nothing.
+-- definition says, so the contract of `price_list_of` speaks of every input. Cited by the attribute of that function. Assumes nothing.
 use mathlib.Core.Path.{◌≡◌, sym, ap, subst, ◌∙◌}
 use mathlib.Core.List.{List}
 use mathlib.Core.Logic.{⊎_elim}

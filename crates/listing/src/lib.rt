@@ -30,6 +30,7 @@ fn push_ending(list: &mut Text, fields: &[u64])
 }
 
 // A text's first line: a word, and numbers.
+#[tactic(auto, using(text::proofs::Pushes::pushes_append))]
 fn first_line(word: &[u8], fields: &[u64]) -> Text
     ensures { result ≡ pushes blank (line word.now fields.now) }
 {
@@ -40,6 +41,7 @@ fn first_line(word: &[u8], fields: &[u64]) -> Text
 }
 
 // A refusal's text.
+#[tactic(auto, unfolding(crate::specs::Listing::refused_text, crate::specs::Listing::refused_word))]
 fn refused(number: u32) -> Text
     ensures { result ≡ pushes blank (refused_text number) }
 {
@@ -47,6 +49,7 @@ fn refused(number: u32) -> Text
 }
 
 // The line of a winner, by its bid number.
+#[tactic(auto, using(text::proofs::Pushes::pushes_append), unfolding(crate::specs::Listing::winner_line))]
 fn push_winner(list: &mut Text, book: &Book, bid: u8, price: u64)
     ensures { list.new ≡ pushes list.old (winner_line (book_of book.now) bid price) }
 {
@@ -88,6 +91,7 @@ pub fn price_list(input: &[u8]) -> Text
 }
 
 // The printed text of every input that begins with what was read of it, and is longer only where `LOOKED_AT` bytes were read.
+#[tactic(auto, using(crate::proofs::Readings::read_listed))]
 pub fn price_list_of(read: &[u8]) -> Text
     ensures { ListedRead LOOKED_AT read.now result }
 {

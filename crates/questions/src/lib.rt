@@ -4,7 +4,7 @@
 #![tactic(auto)]
 
 ghost use Rattle.std.specs.Prelude.{◌≡◌};
-ghost use Rattle.questions.specs.Numbers.{number_of};
+ghost use Rattle.questions.specs.Numbers.{number_of, number_in};
 
 // The questions, in their order.
 #[derive(Clone, Copy, Debug, PartialEq, Eq)]
@@ -49,5 +49,15 @@ impl From<Question> for u32 {
             Question::Slack => 15,
             Question::Clients => 16,
         }
+    }
+}
+
+// The number of an answer that may be a refusal: 0 where it is none.
+pub fn number_in<T>(answer: &Result<T, Question>) -> u32
+    ensures { result ≡ number_in answer.now }
+{
+    match answer {
+        Ok(_) => 0,
+        Err(question) => (*question).into(),
     }
 }

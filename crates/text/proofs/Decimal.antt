@@ -1,5 +1,5 @@
 -- Laws of decimal digits: by size, that the fuel makes no difference, how many there are, which bytes they are, and that they read back
--- as the number. Cited by the proof of `Text::push_decimal`, and by its callers. Assumes nothing.
+-- as the number. Cited by the attribute of `Text::push_decimal`, and by its callers. Assumes nothing.
 use Prim.Native.Nat.{ℕ, zero, suc, ◌+◌, ◌-◌, ◌*◌, ◌/◌, ◌%◌, ◌^◌, ◌≤◌, ◌<◌}
 use native.Mathlib.Nat.{pow-suc}
 use native.Mathlib.Omega.{arith}
@@ -44,6 +44,9 @@ unfolding decimal
 decimal_more n large =
     digits_more n n large
     ∙ ap (λ (ds : List ℕ). ds ++ (ascii_zero + n % 10) ∷ []) (digits_enough n (suc (n / 10)) (n / 10) (omega arith) (omega arith))
+
+-- what the attribute of `Text::push_decimal` cites
+pub ruleset decimal_steps = (decimal_one, decimal_more)
 
 -- what holds of the numbers below ten, and of any other where it holds of its tenth, holds of every number
 decimal_induction : (P : ℕ → Type 0) → ((n : ℕ) → n < 10 → P n) → ((n : ℕ) → 10 ≤ n → P (n / 10) → P n) → (n : ℕ) → P n

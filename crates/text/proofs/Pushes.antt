@@ -1,5 +1,5 @@
 -- Laws of pushed bytes: one byte with room and without, a list in two parts, and what blank text holds after a list, be it too long or not.
--- Cited by the proofs of `Text`'s methods, and by their callers. Assumes nothing.
+-- Cited by the proofs and attributes of `Text`'s methods, and by their callers. Assumes nothing.
 use Prim.Native.Nat.{ℕ, suc, ◌+◌, ◌-◌, ◌≤◌, ◌<◌}
 use native.Mathlib.Nat.{eq-or-lt_of_le}
 use native.Mathlib.Omega.{arith}

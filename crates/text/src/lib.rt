@@ -20,6 +20,7 @@ pub struct Text {
 
 impl Text {
     // No byte yet: zeros, none of them counted.
+    #[tactic(auto, unfolding(crate::specs::Text::blank))]
     pub fn new() -> Text
         ensures { result ≡ blank }
     {
@@ -37,6 +38,7 @@ impl Text {
     }
 
     // Puts a byte behind the others; where there is no room left, the text stays as it is.
+    #[tactic(auto, unfolding(crate::specs::Text::pushed))]
     pub fn push(&mut self, byte: u8)
         ensures { self.new ≡ pushed self.old byte }
     {
@@ -56,6 +58,7 @@ impl Text {
     }
 
     // Puts the decimal digits of a number behind the others, in ASCII: those of its tenth, where there are any, and then the last one.
+    #[tactic(auto, using(crate::proofs::Decimal::decimal_steps, crate::proofs::Pushes::pushes_snoc), unfolding(crate::specs::Text::pushes))]
     pub fn push_decimal(&mut self, n: u64)
         ensures { self.new ≡ pushes self.old (decimal n) }
     {

@@ -27,49 +27,68 @@ mod text;
 
 ghost use Rattle.std.specs.Prelude.{◌<◌, length};
 
-use std::io;
-use std::io::Read;
+use book::{Book, bytes};
+use change::book_of;
+use judge::sheet;
+use print::{number, numbers};
+use std::io::{self, Read};
 
-// Prints the answer to a letter and bytes.
+// Prints the answer to a letter and bytes. Any letter that is no other's is O.
 fn answer(out: &impl Print, letter: u8, s: &[u8]) -> io::Result<()> {
     match letter {
-        b'b' | b'w' | b'd' | b'q' => over_bytes::field(out, letter, s),
-        b'R' | b'G' | b'D' | b'T' => over_bytes::book(out, letter, s),
-        b'J' | b'F' | b'f' => over_bytes::sheet(out, letter, s),
-        b'S' | b's' => over_value::alone(out, letter, s),
-        b'c' | b'a' | b'r' | b'l' | b'h' | b't' => over_value::by_number(out, letter, s),
-        _ => over_value::weighed(out, letter, s),
+        b'b' => number(out, over_bytes::numbered(s, bytes::byte_at)),
+        b'w' => number(out, over_bytes::numbered(s, bytes::u16_at)),
+        b'd' => number(out, over_bytes::numbered(s, bytes::u32_at)),
+        b'q' => number(out, over_bytes::numbered(s, bytes::u64_at)),
+        b'R' => print::reading(out, book::read(s)),
+        b'G' => print::worth(out, over_bytes::worth(s)),
+        b'D' => print::worths(out, s),
+        b'T' => print::table(out, winners::surpluses(s)),
+        b'J' => print::prices(out, judge::judge_sheet(s)),
+        b'F' => print::sheet(out, over_bytes::numbered(s, sheet::read)),
+        b'f' => numbers(out, &sheet::bids_of(s)),
+        b'S' => number(out, questions::number_in(&book_of(s).sound())),
+        b's' => numbers(out, &book_of(s).supplies()),
+        b'c' => number(out, over_value::numbered(s, Book::client_of)),
+        b'a' => number(out, over_value::numbered(s, Book::amount_of)),
+        b'r' => number(out, over_value::numbered(s, Book::reserves_of)),
+        b'l' => numbers(out, &over_value::numbered(s, over_value::bid)),
+        b'h' => numbers(out, &over_value::numbered(s, Book::hours_of)),
+        b't' => number(out, u8::from(over_value::numbered(s, Book::is_standing))),
+        b'g' => print::worth(out, over_value::worth(s)),
+        b'u' => print::table(out, over_value::table(s)),
+        b'W' => print::weighed(out, over_value::weighed(s)),
+        _ => print::prices(out, over_value::judged(s)),
     }
 }
 
 // Prints a line's letter and label, a colon, and the answer.
-fn print_line(out: &impl Print, label: &[u8], letter: u8, s: &[u8]) -> io::Result<()> {
+fn print_line(out: &impl Print, label: &[u8], s: &[u8]) -> io::Result<()> {
     out.write_all(label)?;
     out.write_all(b":")?;
-    answer(out, letter, s)?;
+    answer(out, bytes::byte_at(label, 0), s)?;
     out.write_all(b"\n")
 }
 
 // How many bytes of a line are taken; more are left out.
 const ROOM: usize = 4096;
 
-// Prints the answer to the line that begins at a place, and says where the next one begins. A line that cannot be written is passed over.
-fn run_line(out: &impl Print, lines: &[u8], from: usize) -> usize
-    requires { from < length lines.now }
-    ensures { from < result }
+// Prints the answer to the first of some lines, and hands out those after it. A line that cannot be written is passed over.
+fn run_line<'a>(out: &impl Print, lines: &'a [u8]) -> &'a [u8]
+    requires { 0 < length lines.now }
+    ensures { length result.now < length lines.now }
 {
-    let colon = text::find(lines, from, b':');
-    let end = text::find(lines, colon, b'\n');
+    let (label, rest) = lines.split_at(text::find(lines, b':'));
+    let (written, rest) = rest.split_at(text::find(rest, b'\n'));
     let mut bytes = [0; ROOM];
-    let n = text::unhex(&lines[colon..end], &mut bytes);
-    let _ = print_line(out, &lines[from..colon], lines[from], &bytes[..n]);
-    end + 1
+    let n = text::unhex(written, &mut bytes);
+    let _ = print_line(out, label, &bytes[..n]);
+    text::after(rest, 1)
 }
 
-fn run_all(out: &impl Print, lines: &[u8]) {
-    let mut at = 0;
-    while at < lines.len() {
-        at = run_line(out, lines, at);
+fn run_all(out: &impl Print, mut lines: &[u8]) {
+    while !lines.is_empty() {
+        lines = run_line(out, lines);
     }
 }
 

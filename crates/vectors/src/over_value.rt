@@ -1,90 +1,54 @@
-// Operations over a book that is a value: what a letter stands for, and its answer printed.
-use crate::change::{self, after};
-use crate::print::{self, number, numbers};
+// What operations over a book that is a value ask: of a number or a list, which stand before the book, or of a sheet behind it.
+use crate::change::{behind, book_of};
+use crate::over_bytes;
+use crate::text::after;
 use book::{Book, bytes};
-use std::{array, io};
-use winners::Weighed;
+use judge::Prices;
+use questions::Question;
+use std::array;
+use winners::{SigmaTable, Weighed, Worth};
 
-// The number of the first question that the book fails, or its supplies.
-pub(crate) fn alone(out: &impl Print, letter: u8, s: &[u8]) -> io::Result<()> {
-    let book = change::book_of(s);
-    match letter {
-        b'S' => number(out, print::code(&book.sound())),
-        _ => numbers(out, &book.supplies()),
-    }
+// Of a number, which the first byte says.
+pub(crate) fn numbered<N: From<u8>, T, F: FnOnce(&Book, N) -> T>(s: &[u8], ask: F) -> T
+    requires { F.IsAlwaysCallable ask }
+{
+    over_bytes::numbered(s, |rest, number| ask(&book_of(rest), number))
 }
 
-// Of a bid, its client, amount and reserves.
-fn print_bid(out: &impl Print, book: &Book, bid: usize) -> io::Result<()> {
-    number(out, book.client_of(bid))?;
-    number(out, book.amount_of(bid))?;
-    number(out, book.reserves_of(bid))
-}
-
-// What the book has under a number, of a bid or of a client.
-pub(crate) fn by_number(out: &impl Print, letter: u8, s: &[u8]) -> io::Result<()> {
-    let place = usize::from(bytes::byte_at(s, 0));
-    let book = change::book_of(after(s, 1));
-    match letter {
-        b'c' => number(out, book.client_of(place)),
-        b'a' => number(out, book.amount_of(place)),
-        b'r' => number(out, book.reserves_of(place)),
-        b'l' => print_bid(out, &book, place),
-        b'h' => numbers(out, &book.hours_of(place)),
-        _ => number(out, u8::from(book.is_standing(place))),
-    }
-}
-
-// As many places as there can be, of which the first six are the bytes from the second on.
-fn list_of(s: &[u8]) -> [u8; 255] {
-    array::from_fn(|i| if i < 6 {
-        bytes::byte_at(after(s, 1), i)
-    } else {
-        0
-    })
-}
-
-fn print_worth(out: &impl Print, s: &[u8]) -> io::Result<()> {
-    let book = change::book_of(after(s, 1));
-    print::worth(
-        out,
-        winners::greatest_of(&book, bytes::byte_at(s, 0)).into(),
-    )
-}
-
-fn print_table(out: &impl Print, s: &[u8]) -> io::Result<()> {
-    let book = change::book_of(after(s, 7));
+// Of a list: how many, then six places. Past these it has zeros.
+fn listed<T, F: FnOnce(&Book, &[u8]) -> T>(s: &[u8], ask: F) -> T
+    requires { F.IsAlwaysCallable ask }
+{
     let count = usize::from(bytes::byte_at(s, 0));
-    let clients = list_of(s);
-    print::table(out, &winners::surpluses_of(&book, &clients[..count]).into())
+    let list: [u8; 255] = array::from_fn(|i| if i < 6 { bytes::byte_at(s, 1 + i) } else { 0 });
+    ask(&book_of(after(s, 7)), &list[..count])
 }
 
-fn print_weighed(out: &impl Print, s: &[u8]) -> io::Result<()> {
-    let book = change::book_of(after(s, 7));
-    let count = usize::from(bytes::byte_at(s, 0));
-    let bids = list_of(s);
-    let answer = winners::weigh(&book, &bids[..count]);
-    number(out, print::code(&answer))?;
-    let weighed = answer.unwrap_or(Weighed {
-        value: 0,
-        clients: [0; 6],
-        sigma: [0; 64],
-    });
-    number(out, weighed.value)?;
-    numbers(out, &weighed.clients)?;
-    numbers(out, &weighed.sigma)
+// A bid's client, amount and reserves.
+pub(crate) fn bid(book: &Book, number: usize) -> [u64; 3] {
+    [
+        book.client_of(number).into(),
+        book.amount_of(number).into(),
+        book.reserves_of(number),
+    ]
 }
 
-fn print_answer(out: &impl Print, s: &[u8]) -> io::Result<()> {
-    let book = change::book_of(s);
-    print::answer(out, judge::judge_over(&book, change::behind(s)))
+// The greatest value without the clients of a discard byte. Here and below in a closure, as in over_bytes.rt.
+pub(crate) fn worth(s: &[u8]) -> Worth {
+    numbered(s, |book, discard| winners::greatest_of(book, discard)).into()
 }
 
-pub(crate) fn weighed(out: &impl Print, letter: u8, s: &[u8]) -> io::Result<()> {
-    match letter {
-        b'g' => print_worth(out, s),
-        b'u' => print_table(out, s),
-        b'W' => print_weighed(out, s),
-        _ => print_answer(out, s),
-    }
+// The greatest value, and σ of the sets of a list of clients.
+pub(crate) fn table(s: &[u8]) -> SigmaTable {
+    listed(s, |book, clients| winners::surpluses_of(book, clients)).into()
+}
+
+// A list of bids, weighed.
+pub(crate) fn weighed(s: &[u8]) -> Result<Weighed, Question> {
+    listed(s, |book, bids| winners::weigh(book, bids))
+}
+
+// A sheet, judged.
+pub(crate) fn judged(s: &[u8]) -> Prices {
+    judge::judge_over(&book_of(s), behind(s))
 }

@@ -1,15 +1,18 @@
-// Bytes written in hexadecimal.
-ghost use Rattle.std.specs.Prelude.{◌≤◌, length};
+// Bytes: where one stands, those after a place, and those that are written in hexadecimal.
+ghost use Rattle.std.specs.Prelude.{◌≡◌, ◌-◌, ◌≤◌, length};
 
-// Where a byte next stands from a place on, or the end.
-pub(crate) fn find(s: &[u8], from: usize, byte: u8) -> usize
-    requires { from ≤ length s.now }
-    ensures { (from ≤ result) × (result ≤ length s.now) }
+// Where a byte first stands, or the end.
+pub(crate) fn find(s: &[u8], byte: u8) -> usize
+    ensures { result ≤ length s.now }
 {
-    match s[from..].iter().position(|&b| b == byte) {
-        Some(ahead) => from + ahead,
-        None => s.len(),
-    }
+    s.iter().position(|&b| b == byte).unwrap_or(s.len())
+}
+
+// The bytes after the first n.
+pub(crate) fn after(s: &[u8], n: usize) -> &[u8]
+    ensures { length result.now ≡ length s.now - n }
+{
+    s.get(n..).unwrap_or_default()
 }
 
 // What a hexadecimal digit counts, where the byte is one.

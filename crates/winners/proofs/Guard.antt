@@ -1,22 +1,14 @@
--- Whether a guard is set, as a test; and one lane, whose guard is tested apart from the lanes above it. Cited by LaneSums.antt and
--- Searching.antt, and by the proof of pass::value_of. Assumes nothing.
+-- One lane, whose guard is tested apart from the lanes above it. Cited by LaneSums.antt, LanesPacked.antt and LanesLeast.antt. Assumes
+-- nothing.
 use mathlib.Core.Path.{◌≡◌, refl, sym, ap, ◌∙◌}
 use mathlib.Core.Bool.{true, false, ◌&&◌}
-use mathlib.Core.Logic.{◌≢◌, ⊎_elim}
+use mathlib.Core.Logic.{⊎_elim}
 use Prim.Native.Nat.{ℕ, ◌+◌, ◌*◌, ◌-◌, ◌^◌, ◌<◌}
 use native.Mathlib.Omega.{arith}
 use borrow.Author.Tests.{leb-true, leb-false, eqb-true, eqb-false, eq-eqb, ne_eqb}
 use lib.Bits.{bit_and, and_block, and_zero_r}
 use lib.Dec.{leb, eqb}
 use Rattle.market.proofs.Bools.{either}
-use Rattle.winners.specs.Lanes.{guards}
-
--- no guard of x is set, or one is; g is those that are
-pub guards_clear : (x g : ℕ) → g ≡ bit_and x guards → g ≡ 0 → eqb (bit_and x guards) 0 ≡ true
-guards_clear x g e z = eq-eqb (bit_and x guards) 0 (sym e ∙ z)
-
-pub guards_some : (x g : ℕ) → g ≡ bit_and x guards → g ≢ 0 → eqb (bit_and x guards) 0 ≡ false
-guards_some x g e n = ne_eqb (bit_and x guards) 0 (λ z. n (e ∙ z))
 
 -- the low bits and the others are tested apart
 blocks : (k a b r s x y : ℕ) → r < 2 ^ k → s < 2 ^ k → x ≡ a * 2 ^ k + r → y ≡ b * 2 ^ k + s

@@ -1,10 +1,10 @@
--- The bids of a sound book that is a value, by their places: whose they are, what they weigh, and their hours, also as numbers in lanes;
--- and its supply as such a number. Cited by the proofs of src/. Assumes nothing.
+-- The bids of a sound book that is a value: how many they are, and their hours as numbers in lanes; its supply as such a number; and the
+-- clients kept. Cited by the proofs of src/. Assumes nothing.
 use mathlib.Core.Path.{◌≡◌, refl, sym, ap, ap₂, ◌∙◌}
 use mathlib.Core.Bool.{Bool, ◌&&◌, not}
-use mathlib.Core.List.{List, [], ◌∷◌}
-use Prim.Native.Nat.{ℕ, zero, suc, ◌+◌, ◌*◌, ◌-◌, ◌≤◌, ◌<◌}
-use native.Mathlib.Nat.{le_of_suc-le-suc, min-eq_left}
+use mathlib.Core.List.{List, []}
+use Prim.Native.Nat.{ℕ, zero, suc, ◌+◌, ◌-◌, ◌≤◌, ◌<◌}
+use native.Mathlib.Nat.{min-eq_left}
 use native.Mathlib.Decide.{dec_lt}
 use native.Mathlib.Omega.{arith}
 use lib.Bits.{bit_and}
@@ -12,12 +12,12 @@ use lib.Dec.{eqb}
 use lib.ListN.{length, get_or, take, get_or-eq_default}
 use Rattle.sets.specs.Sets.{has, set_of}
 use Rattle.sets.proofs.Members.{has_set_of}
-use Rattle.book.specs.Lists.{within, row}
+use Rattle.book.specs.Lists.{row}
 use Rattle.book.specs.Book.{Book, Bid, bid_at, client_of, clients, standing, supplies}
 use Rattle.book.specs.Value.{bid_held, book_of, sound_number}
 use Rattle.book.specs.declared.value.Book.{Book as Arrays}
-use Rattle.book.proofs.RowLaws.{row_length, row_at, row_past}
-use Rattle.book.proofs.Held.{held_kinds, held_clients, held_bids, held_bid, counts_held, sound_held, standing_by_number}
+use Rattle.book.proofs.RowLaws.{row_at, taken_row}
+use Rattle.book.proofs.Held.{held_kinds, held_clients, held_bids, held_bid, counts_held, sound_held}
 use Rattle.market.specs.Market.{fits}
 use Rattle.winners.specs.Combinations.{market, amount_of}
 use Rattle.winners.specs.ByKind.{by_kind}
@@ -27,21 +27,6 @@ use Rattle.winners.specs.Rows.{searched}
 use Rattle.winners.proofs.Books.{supplies_count}
 use Rattle.winners.proofs.KindEntries.{by_kind_take}
 use Rattle.winners.proofs.LaneSums.{fit_says, used_short}
-
--- a row cut short
-row_take : (k n i : ℕ) (f : ℕ → ℕ) → k ≤ n → take k (row n i f) ≡ row k i f
-unfolding row
-row_take zero n i f l = refl
-row_take (suc k) zero i f l = absurd (omega arith)
-row_take (suc k) (suc n) i f l = ap (λ (xs : List ℕ). f i ∷ xs) (row_take k n (i + 1) f (le_of_suc-le-suc l))
-
--- four entries read one by one
-pub row_of_kinds : (f : ℕ → ℕ) (p : ℕ) → (f p ∷ f (p + 1) ∷ f (p + 2) ∷ f (p + 3) ∷ []) ≡ row 4 p f
-unfolding row
-row_of_kinds f p =
-    let two : p + 1 + 1 ≡ p + 2 = omega arith in
-    let three : p + 2 + 1 ≡ p + 3 = omega arith in
-    rw (two, three)
 
 -- four entries of at most four, 0 past them
 by_kind_past : (xs : List ℕ) → length xs ≤ 4 → (i : ℕ) → length xs ≤ i → get_or (by_kind xs) i 0 ≡ 0
@@ -102,39 +87,25 @@ module _ (v : Arrays) (h : sound_number v ≡ 0) where
     unfolding amount_of bid_held
     weight_is = ap (λ (x : Bid). x.amount) bid_is
 
-    hours_are : (bid_at (book_of v) (i + 1)).hours ≡ row v.k (4 * i) (λ p. get_or v.hours p 0)
+  -- a bid's hours, of which four are read, as a number
+  module _ (i : ℕ) (l : i < v.m) (long : length (get_or v.hours i []) ≡ 4) where
+    abbrev four : List ℕ
+    four = get_or v.hours i []
+
+    hours_each : length (bid_at (book_of v) (i + 1)).hours ≡ length (book_of v).kinds
+    hours_each = (sound_held v h).kinds_each (i + 1) (omega arith) (omega (arith, bids_are))
+
+    hours_are : take v.k four ≡ (bid_at (book_of v) (i + 1)).hours
     unfolding bid_held
-    hours_are = ap (λ (x : Bid). x.hours) bid_is
+    hours_are =
+        taken_row 0 v.k four (omega (arith, (counts_held v h).k_high)) ∙ sym (ap (λ (x : Bid). x.hours) (bid_is i l))
 
-    -- the four hours that are read, cut to the book's kinds, and packed
-    pub asked_take : (asked : List ℕ) → asked ≡ row 4 (4 * i) (λ p. get_or v.hours p 0)
-        → take v.k asked ≡ (bid_at (book_of v) (i + 1)).hours
-    asked_take asked ea =
-        ap (λ (xs : List ℕ). take v.k xs) ea ∙ row_take v.k 4 (4 * i) _ (counts_held v h).k_high ∙ sym hours_are
+    pub packed_is : (number : ℕ) → number ≡ packed (take v.k four) → number ≡ packed (bid_at (book_of v) (i + 1)).hours
+    packed_is number en = en ∙ ap packed hours_are
 
-    pub packed_is : (asked : List ℕ) (number : ℕ) → asked ≡ row 4 (4 * i) (λ p. get_or v.hours p 0) → number ≡ packed (take v.k asked)
-        → number ≡ packed (bid_at (book_of v) (i + 1)).hours
-    packed_is asked number ea en = en ∙ ap packed (asked_take asked ea)
-
-    module _ (bytes : Bytes v.hours) where
+    module _ (bytes : Bytes (take v.k four)) where
       pub asked_is : Asked (length (book_of v).kinds) (bid_at (book_of v) (i + 1)).hours (packed (bid_at (book_of v) (i + 1)).hours)
-      asked_is = record {
-        kinds = ap (λ (hs : List ℕ). length hs) hours_are ∙ row_length v.k (4 * i) _ ∙ sym kinds_are;
-        bytes = λ j. elim (dec_lt j v.k) [
-          | yes m ↦ omega (
-            arith,
-            ap (λ (hs : List ℕ). get_or hs j 0) hours_are,
-            row_at v.k (4 * i) (λ p. get_or v.hours p 0) j 0 m,
-            bytes (4 * i + j),
-          )
-          | no m ↦ omega (
-            arith,
-            ap (λ (hs : List ℕ). get_or hs j 0) hours_are,
-            row_past v.k (4 * i) (λ p. get_or v.hours p 0) j 0 (omega arith),
-          )
-        ];
-        packs = refl;
-      }
+      asked_is = record { kinds = hours_each; bytes = rw hours_are at bytes; packs = refl }
 
       -- whether it may be taken, by the clients kept, its hours and the supply
       pub may_is : (d kept u a own : ℕ) (t : Bool)
@@ -155,18 +126,13 @@ module _ (v : Arrays) (h : sound_number v ≡ 0) where
           = keeps own low high ∙ ap (λ (c : ℕ). standing b c && not (discarded d c)) eo in
           et ∙ ap₂ (λ (x y : Bool). x && y) on fit
 
-  -- the clients kept, by the caps
-  pub kept_is : (d kept : ℕ) → kept ≡ set_of 6 (λ j. (within 1 (1 + j) v.n && not (eqb (get_or v.caps j 0) 0)) && not (has d j))
-      → (c : ℕ) → 1 ≤ c → c ≤ 6 → has kept (c - 1) ≡ (standing (book_of v) c && not (discarded d c))
-  unfolding discarded
-  kept_is d kept e zero l u = absurd (omega arith)
-  kept_is d kept e (suc c) l u =
-      let back : suc c - 1 ≡ c = omega arith in
-      let up : 1 + c ≡ suc c = omega arith in
-      let all = min-eq_left (counts_held v h).n_high in
-      let stands : standing (book_of v) (suc c) ≡ (within 1 (suc c) v.n && not (eqb (get_or v.caps c 0) 0))
-      = standing_by_number v (suc c)
-      ∙ ap₂ (λ (n p : ℕ). within 1 (suc c) n && not (eqb (get_or v.caps p 0) 0)) all back in
-      rw back (rw (e, stands)
-      (has_set_of 6 (λ j. (within 1 (1 + j) v.n && not (eqb (get_or v.caps j 0) 0)) && not (has d j)) c (omega arith)
-      ∙ ap (λ (x : ℕ). (within 1 x v.n && not (eqb (get_or v.caps c 0) 0)) && not (has d c)) up))
+-- the clients kept
+pub kept_is : (b : Book) (d kept : ℕ) → kept ≡ set_of 6 (λ j. standing b (1 + j) && not (has d j))
+    → (c : ℕ) → 1 ≤ c → c ≤ 6 → has kept (c - 1) ≡ (standing b c && not (discarded d c))
+unfolding discarded
+kept_is b d kept e zero l u = absurd (omega arith)
+kept_is b d kept e (suc c) l u =
+    let back : suc c - 1 ≡ c = omega arith in
+    let up : 1 + c ≡ suc c = omega arith in
+    rw (back, e) (has_set_of 6 (λ j. standing b (1 + j) && not (has d j)) c (omega arith)
+    ∙ ap (λ (x : ℕ). standing b x && not (has d c)) up)

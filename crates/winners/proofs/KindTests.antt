@@ -1,22 +1,24 @@
 -- Hours of several kinds: where they do not fit, and what is left, kind by kind. Cited by the proofs of src/hours.rt. Assumes
 -- nothing.
-use mathlib.Core.Path.{◌≡◌, refl, sym, ◌∙◌}
-use mathlib.Core.Bool.{Bool, true, false}
-use mathlib.Core.List.{List}
-use Prim.Native.Nat.{ℕ, ◌-◌, ◌<◌}
+use mathlib.Core.Path.{◌≡◌, refl, sym, ap, ◌∙◌}
+use mathlib.Core.Bool.{Bool, ◌&&◌}
+use mathlib.Core.List.{List, [], ◌∷◌}
+use Prim.Native.Nat.{ℕ, ◌-◌, ◌≤◌, ◌<◌}
+use native.Mathlib.Nat.{le_of_suc-le-suc}
 use native.Mathlib.Omega.{arith}
+use lib.Dec.{leb}
 use lib.ListN.{length, get_or}
 use lib.Seq.{ext_get_or}
+use Rattle.std.specs.List.{list_all, zip}
 use Rattle.market.specs.Market.{fits, less}
-use Rattle.market.proofs.Hours.{fits_at, less_at, less_length}
+use Rattle.market.proofs.Hours.{less_at, less_length}
 
--- hours of one kind that are more than what is left
-pub not_fits : (asked left : List ℕ) (kind : ℕ) → get_or left kind 0 < get_or asked kind 0 → false ≡ fits asked left
-not_fits asked left kind more = go (fits asked left) (λ t. absurd (omega (arith, fits_at asked left t kind)))
-  where
-    go : (b : Bool) → (b ≡ true → false ≡ b) → false ≡ b
-    go true f = f refl
-    go false f = refl
+-- hours fit where each kind's do
+pub fits_all : (asked left : List ℕ) → length asked ≤ length left → list_all (λ (p : ℕ × ℕ). leb p.0 p.1) (zip asked left) ≡ fits asked left
+unfolding fits
+fits_all [] ls l = refl
+fits_all (h ∷ hs) [] l = absurd (omega arith)
+fits_all (h ∷ hs) (x ∷ ls) l = ap (λ (b : Bool). leb h x && b) (fits_all hs ls (le_of_suc-le-suc l))
 
 -- differences are what is left
 pub less_is : (left asked rest : List ℕ) → length rest ≡ length left

@@ -10,6 +10,7 @@ use borrow.Author.Tests.{le-leb, lt-ltb}
 use lib.Dec.{leb, ltb}
 use lib.ListN.{length, take, length-map}
 use lib.Seq.{take-take, take_at}
+use Rattle.std.proofs.lemmas.List.{get_or-map}
 use Rattle.market.specs.Market.{at}
 use Rattle.market.specs.Combination as Market·
 use Rattle.book.specs.Book.{Book, client_of, clients}
@@ -19,7 +20,6 @@ use Rattle.winners.specs.Surpluses.{rising_to}
 use Rattle.winners.specs.Weighed.{owners_of, six}
 use Rattle.winners.specs.ClientLists.{RisingList}
 use Rattle.winners.proofs.Picks.{rising_more}
-use Rattle.winners.proofs.Six.{map_at}
 
 -- clients that rise between c and n pass the list's test
 rising_true : (n c : ℕ) (xs : List ℕ) → ((j : ℕ) → j < length xs → (c < at xs j) × (at xs j ≤ n))
@@ -49,7 +49,8 @@ module _ (b : Book) (bids : List ℕ) where
   unfolding owners_of market Market·.Rising
   owners_rise c r =
       let e = length-map bids (client_of b) in
-      let client : (j : ℕ) → j < length bids → at (map (client_of b) bids) j ≡ client_of b (at bids j) = map_at (client_of b) bids in
+      let client : (j : ℕ) → j < length bids → at (map (client_of b) bids) j ≡ client_of b (at bids j)
+      = λ j l. get_or-map (client_of b) bids j 0 0 l in
       rising_true (clients b) 0 (map (client_of b) bids)
       (λ j l. let there = le_trans l (le_of_eq e) in
       (le_trans (c.owners j there).0 (le_of_eq (sym (client j there))), le_trans (le_of_eq (client j there)) (c.owners j there).1))

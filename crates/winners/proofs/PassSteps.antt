@@ -1,7 +1,7 @@
 -- The steps of the pass over sets: a set's floor, and its value by its clients' heads or by the split. Cited by the proofs of src/pass.rt.
 -- Assumes nothing.
-use mathlib.Core.Path.{◌≡◌, refl, sym, ap, ap₂, fun_ext, ◌∙◌}
-use mathlib.Core.Bool.{Bool, true, false, cond, true≢false}
+use mathlib.Core.Path.{◌≡◌, sym, ap, ap₂, ◌∙◌}
+use mathlib.Core.Bool.{true, false}
 use mathlib.Core.List.{List, [], ◌∷◌}
 use mathlib.Core.Logic.{◌⊎◌, inl, inr, ⊎_elim}
 use Prim.Native.Nat.{ℕ, suc, ◌+◌, ◌-◌, ◌*◌, ◌^◌, ◌≤◌, ◌<◌, max}
@@ -11,9 +11,9 @@ use lib.Bits.{bit_and}
 use lib.Dec.{eqb, leb, ltb}
 use lib.ListN.{length, get_or}
 use borrow.Author.Tests.{leb-true, leb-false, ltb-true, ltb-false}
-use lib.Pow.{pow_pos, pow_mono}
-use Rattle.sets.specs.Sets.{has, set_of}
-use Rattle.sets.proofs.Members.{has_zero, set_of_lt}
+use lib.Pow.{pow_pos}
+use Rattle.sets.specs.Sets.{has}
+use Rattle.sets.proofs.Members.{has_zero}
 use Rattle.market.specs.Market.{Market, fits, less}
 use Rattle.market.specs.Members.{more, reach, leasts, trimmed, without, Heaviest}
 use Rattle.market.proofs.Bools.{either}
@@ -28,7 +28,7 @@ use Rattle.market.proofs.Heaviest.{heaviest_first}
 use Rattle.winners.specs.ClientSets.{clients_in, First, Others, Within}
 use Rattle.winners.specs.Full.{weight_most, Tail, one, next, Ceilings, Searchable, Searched}
 use Rattle.winners.specs.Lanes.{guards}
-use Rattle.winners.specs.Passes.{FloorPast, Weighable}
+use Rattle.winners.specs.Passes.{FloorPast, ValuesTo, Weighable}
 use Rattle.winners.specs.Rows.{weight_at, row_of}
 use Rattle.winners.specs.declared.row.Row.{Row}
 use Rattle.winners.proofs.ClientSets.{clients_first, clients_without, clients_few, some_client, others_less}
@@ -36,9 +36,6 @@ use Rattle.winners.proofs.ClientSets.{fewer_within, gone_alone, has_there, reach
 use Rattle.winners.proofs.Taking.{more_fits}
 
 -- A SET'S FLOOR, one client left out after another
-pub floor_none : (set : ℕ) (values : List ℕ) → FloorPast set set values 0
-floor_none set values = record { covers = λ j l y z. absurd (true≢false (sym y ∙ z)); there = inl refl }
-
 module _ (left c set : ℕ) (values : List ℕ) (floor now : ℕ) (first : First left c) (within : Within left set) where
   abbrev rest : ℕ
   rest = left - 2 ^ (c - 1)
@@ -73,34 +70,6 @@ module _ (left c set : ℕ) (values : List ℕ) (floor now : ℕ) (first : First
       kept e (inl z) = inl (e ∙ z)
       kept e (inr (j, l, y, z)) = inr (j, l, y, e ∙ z)
 
--- A SET BY ITS CLIENTS, from the last down
-pub held_next : (q : ℕ → Bool) (t held now : ℕ) (b : Bool) → 0 < t → t ≤ 6 → held ≡ set_of (6 - t) (λ i. q (t + 1 + i)) → b ≡ q t
-    → now ≡ cond b 1 0 + 2 * held → now ≡ set_of (6 - (t - 1)) (λ i. q (t - 1 + 1 + i))
-unfolding set_of
-held_next q t held now b some few eh eb en =
-    let longer : 6 - (t - 1) ≡ suc (6 - t) = omega arith in
-    let here : t - 1 + 1 + 0 ≡ t = omega arith in
-    let later : (i : ℕ) → t - 1 + 1 + suc i ≡ t + 1 + i = λ i. omega arith in
-    rw longer (en ∙ ap₂ (λ (x : Bool) (y : ℕ). cond x 1 0 + 2 * y) (eb ∙ ap q (sym here))
-    (eh ∙ ap (λ (f : ℕ → Bool). set_of (6 - t) f) (fun_ext (λ i. ap q (sym (later i))))))
-
--- the same, by the client before which those passed stand
-pub set_next : (q : ℕ → Bool) (c held now : ℕ) (b : Bool) → 1 < c → c ≤ 7 → held ≡ set_of (7 - c) (λ i. q (c + i)) → b ≡ q (c - 1)
-    → now ≡ cond b 1 0 + 2 * held → now ≡ set_of (7 - (c - 1)) (λ i. q (c - 1 + i))
-unfolding set_of
-set_next q c held now b some few eh eb en =
-    let longer : 7 - (c - 1) ≡ suc (7 - c) = omega arith in
-    let here : c - 1 + 0 ≡ c - 1 = omega arith in
-    let later : (i : ℕ) → c - 1 + suc i ≡ c + i = λ i. omega arith in
-    rw longer (en ∙ ap₂ (λ (x : Bool) (y : ℕ). cond x 1 0 + 2 * y) (eb ∙ ap q (sym here))
-    (eh ∙ ap (λ (f : ℕ → Bool). set_of (7 - c) f) (fun_ext (λ i. ap q (sym (later i))))))
-
-pub held_few : (t : ℕ) (q : ℕ → Bool) → set_of (6 - t) q < 64
-held_few t q = omega (arith, set_of_lt (6 - t) q, pow_mono {i = 6 - t} {j = 6} (omega arith))
-
-pub set_few : (c : ℕ) (q : ℕ → Bool) → 1 ≤ c → set_of (7 - c) q < 64
-set_few c q some = omega (arith, set_of_lt (7 - c) q, pow_mono {i = 7 - c} {j = 6} (omega arith))
-
 -- HOW MUCH THERE IS TO REACH
 reach_most : (m : Market) (wt : ℕ → ℕ) (a : ℕ) → ((i : ℕ) → wt i ≤ a) → (cs ls : List ℕ) → reach m wt cs ls ≤ a * length cs
 unfolding reach
@@ -114,6 +83,14 @@ reach_most m wt a h (c ∷ cs) ls =
 reach_few : (m : Market) (wt : ℕ → ℕ) → ((i : ℕ) → wt i ≤ 9007199254740992) → (s : ℕ) (ls : List ℕ)
     → reach m wt (clients_in s) ls ≤ 54043195528445952
 reach_few m wt h s ls = omega (arith, reach_most m wt 9007199254740992 h (clients_in s) ls, clients_few (λ c. has s (c - 1)) 6 1)
+
+-- so values are few
+pub values_few : (m : Market) (wt : ℕ → ℕ) (supply : List ℕ) (n : ℕ) (values : List ℕ) → ((i : ℕ) → wt i ≤ 9007199254740992)
+    → ValuesTo m wt supply n values → (r : ℕ) → get_or values r 0 ≤ 54043195528445952
+values_few m wt supply n values h known r = ⊎_elim
+    (λ (y : ltb r n ≡ true). rw (known.below r (ltb-true r n y)) (reach_few m wt h r supply))
+    (λ (z : ltb r n ≡ false). omega (arith, known.above r (ltb-false r n z)))
+    (either (ltb r n))
 
 -- THE CLIENTS LEFT
 tail_less : {s r : ℕ} → Tail s r → r < s
@@ -159,12 +136,6 @@ module _ (set used heads : ℕ) (rows : List Row) (values : List ℕ) (w : Weigh
       rw (w.known.below r (tail_less tail))
       (full_reaches m wt least w.sale.laid.low (clients_in r) ys supply
       (tail_room least tail ys supply (sym (more_fits ys taken supply t) ∙ f)))
-
-  pub values_few : (r : ℕ) → get_or values r 0 ≤ 54043195528445952
-  values_few r = ⊎_elim
-      (λ (y : ltb r set ≡ true). rw (w.known.below r (ltb-true r set y)) (reach_few m wt w.sale.laid.weights_few r supply))
-      (λ (z : ltb r set ≡ false). omega (arith, w.known.above r (ltb-false r set z)))
-      (either (ltb r set))
 
   -- where the heaviest bids fit together, the first client's weight and what the others reach
   pub value_together : {c : ℕ} → First set c → {others : ℕ} → Others set others → eqb (bit_and heads guards) 0 ≡ true
@@ -230,6 +201,5 @@ module _ (set used heads : ℕ) (rows : List Row) (values : List ℕ) (w : Weigh
             clients_left = count;
             some_left = omega (arith, some_client set w.some w.few);
             set_few = w.few;
-            values_few = values_few;
             floor_few = omega (arith, reached, reach_few m wt w.sale.laid.weights_few set supply);
           }

@@ -8,10 +8,11 @@ use mathlib.Core.Logic.{⊎_elim}
 use Prim.Native.Nat.{ℕ, ◌≤◌}
 use native.Mathlib.Nat.{le_trans, le_of_eq}
 use native.Mathlib.Omega.{arith}
+use Rattle.std.proofs.lemmas.Bool.{cond-false}
 use Rattle.market.specs.Market.{Market, at}
 use Rattle.market.specs.Combination as Market·
 use Rattle.market.specs.Restrict.{kept}
-use Rattle.market.proofs.Bools.{either, cond_false}
+use Rattle.market.proofs.Bools.{either}
 use Rattle.market.proofs.Each.{each_if}
 use Rattle.market.proofs.Worth.{worth_eq}
 use Rattle.market.proofs.Kept.{combination_kept}
@@ -62,5 +63,5 @@ module _ (b : Book) (shaped : Shaped b) where
     staying_attained =
         let (xs, c, none, e) = (greatest_value b shaped out).attained in
         let all = each_if (λ i. to_staying b out i ≡ amount_of b i) xs
-        (λ k l. cond_false (out (client_of b (at xs k))) 0 (amount_of b (at xs k)) (none k l)) in
+        (λ k l. cond-false (out (client_of b (at xs k))) 0 (amount_of b (at xs k)) (none k l)) in
         (xs, c, worth_eq (to_staying b out) (amount_of b) xs all ∙ e)

@@ -1,11 +1,13 @@
 -- The steps of the search over a client's row: where it begins, a bid taken or left, and where it may end. Cited by the proofs of
 -- src/full.rt. Assumes nothing.
 use mathlib.Core.Path.{◌≡◌, refl, sym, ap, subst, ◌∙◌}
+use mathlib.Core.Bool.{Bool, true, false}
 use mathlib.Core.List.{List, [], ◌∷◌}
-use mathlib.Core.Logic.{◌≢◌, ⊎_elim}
+use mathlib.Core.Logic.{⊎_elim}
 use Prim.Native.Nat.{ℕ, zero, suc, ◌+◌, ◌-◌, ◌*◌, ◌^◌, ◌≤◌, ◌<◌, max}
 use native.Mathlib.Omega.{arith}
 use lib.Bits.{bit_and}
+use lib.Dec.{eqb}
 use lib.ListN.{length, get_or, drop}
 use Rattle.market.specs.Market.{Market, at, less}
 use Rattle.market.specs.Members.{full, choose_in}
@@ -22,7 +24,6 @@ use Rattle.winners.specs.declared.row.Offer.{Offer}
 use Rattle.winners.specs.declared.row.Row.{Row}
 use Rattle.winners.specs.Full.{weight_most, found_most, one, next, Ceilings, Searchable, Searched}
 use Rattle.winners.proofs.ClientSets.{clients_none, clients_first, clients_few, others_less}
-use Rattle.winners.proofs.Guard.{guards_clear, guards_some}
 use Rattle.winners.proofs.LaneSums.{used_most}
 use Rattle.winners.proofs.LanesLeft.{fit_here, left_after}
 
@@ -86,7 +87,7 @@ module _ {set client used floor : ℕ} {rows : List Row} {values : List ℕ} {hi
         ∙ f.is m wt k ls h l c;
   }
 
-  -- a turn, at an offer of the row; g is the guards that are set once the bid is taken
+  -- a turn, at an offer of the row; g says whether the bid fits
   module _ {top d : ℕ} (f : Found set client used floor rows values hi top d) (inside : d < length (row_of rows client)) {o : Offer}
       (here : o ≡ offer_at (row_of rows client) d) where
     -- the row ends where no later bid can beat what is found
@@ -102,28 +103,29 @@ module _ {set client used floor : ℕ} {rows : List Row} {values : List ℕ} {hi
     }
 
     -- a bid that does not fit
-    pub found_left : (g : ℕ) → g ≡ bit_and (used + o.hours) guards → g ≢ 0 → Found set client used floor rows values hi top (d + 1)
-    found_left g e n = record {
+    pub found_left : {g : Bool} → g ≡ eqb (bit_and (used + o.hours) guards) 0 → g ≡ false
+        → Found set client used floor rows values hi top (d + 1)
+    found_left e n = record {
       is = λ m wt k ls h l c.
           let (row, r) = h client hi.low hi.high in
           let within : d < length row = omega (arith, r.count) in
           let fit = fit_here k _ ls _ used (offered_here r here within).asks l in
           let step = place_next m wt ls (λ rs. full m wt (clients_in (rest_of set client)) rs) row d top within in
-          sym (rw (sym fit ∙ guards_some (used + o.hours) g e n) at step) ∙ f.is m wt k ls h l c;
+          sym (rw (sym fit ∙ sym e ∙ n) at step) ∙ f.is m wt k ls h l c;
     }
 
     -- a bid that is taken, from a floor lowered by its weight
-    pub found_taken : {rest : ℕ} → Others set rest → (g : ℕ) → g ≡ bit_and (used + o.hours) guards → g ≡ 0
+    pub found_taken : {rest : ℕ} → Others set rest → {g : Bool} → g ≡ eqb (bit_and (used + o.hours) guards) 0 → g ≡ true
         → {base more : ℕ} → base ≡ top - o.weight → Searched rest (used + o.hours) base rows values more
         → Found set client used floor rows values hi (o.weight + more) (d + 1)
-    found_taken others g e z {base} {more} eb s = record {
+    found_taken others e y {base} {more} eb s = record {
       is = λ m wt k ls h l c.
           let weight = o.weight in
           let (row, r) = h client hi.low hi.high in
           let within : d < length row = omega (arith, r.count) in
           let offered = offered_here r here within in
           let ask = offered.asks in
-          let fit = sym (fit_here k _ ls _ used ask l) ∙ guards_clear (used + o.hours) g e z in
+          let fit = sym (fit_here k _ ls _ used ask l) ∙ sym e ∙ y in
           let hours = m.hours (at row d) in
           let on = full m wt (clients_in (rest_of set client)) (less ls hours) in
           let searched = subst (λ (x : ℕ). Searched x (used + o.hours) base rows values more) (others.is client hi) s in
@@ -151,13 +153,13 @@ nothing_more set client hi alone m wt rs =
 pub last_fits : {set client used floor : ℕ} {rows : List Row} {values : List ℕ} {hi : First set client} {d : ℕ}
     → Found set client used floor rows values hi floor d → d < length (row_of rows client)
     → {o : Offer} → o ≡ offer_at (row_of rows client) d → 1 ≡ length (clients_in set)
-    → (g : ℕ) → g ≡ bit_and (used + o.hours) guards → g ≡ 0 → Searched set used floor rows values (max floor o.weight)
-last_fits {set} {client} {used} {floor} {rows} {values} {hi} {d} f inside {o} here alone g e z = record {
+    → {g : Bool} → g ≡ eqb (bit_and (used + o.hours) guards) 0 → g ≡ true → Searched set used floor rows values (max floor o.weight)
+last_fits {set} {client} {used} {floor} {rows} {values} {hi} {d} f inside {o} here alone e y = record {
   is = λ m wt k ls h l c.
       let (row, r) = h client hi.low hi.high in
       let within : d < length row = omega (arith, r.count) in
       let offered = offered_here r here within in
-      let fit = sym (fit_here k _ ls _ used offered.asks l) ∙ guards_clear (used + o.hours) g e z in
+      let fit = sym (fit_here k _ ls _ used offered.asks l) ∙ sym e ∙ y in
       let best = place_first m wt ls (λ rs. full m wt (clients_in (rest_of set client)) rs) row d floor within r.falls
       (nothing_more set client hi alone m wt) fit in
       ap (λ (x : ℕ). max floor x) (offered.weighs ∙ sym best) ∙ f.is m wt k ls h l c;
@@ -187,14 +189,14 @@ module _ {ahead set used floor : ℕ} {rows : List Row} {values : List ℕ} (w :
     hours_few = omega (arith, o.in_lanes, w.left.lanes, used_most w.hours)
 
     -- the others may be searched once it is taken
-    searchable_rest : (g : ℕ) → g ≡ bit_and (used + o.hours) guards → g ≡ 0
+    searchable_rest : {g : Bool} → g ≡ eqb (bit_and (used + o.hours) guards) 0 → g ≡ true
         → (base : ℕ) → base ≤ found_most → 2 ≤ ahead
         → Searchable (ahead - 1) (rest_of set client) (used + o.hours) base rows values
-    searchable_rest g e z base few more =
+    searchable_rest e y base few more =
         let (row, r) = w.held client hi.low hi.high in
         let ask = (offered_here r here (omega (arith, r.count))).asks in
         let hours = w.m.hours (at row d) in
-        let fit = sym (fit_here w.k hours w.hours _ used ask w.left) ∙ guards_clear (used + o.hours) g e z in
+        let fit = sym (fit_here w.k hours w.hours _ used ask w.left) ∙ sym e ∙ y in
         record {
           m = w.m;
           wt = w.wt;
@@ -207,12 +209,11 @@ module _ {ahead set used floor : ℕ} {rows : List Row} {values : List ℕ} (w :
           clients_left = omega (arith, w.clients_left, ap length (clients_first set client hi));
           some_left = omega arith;
           set_few = omega (arith, w.set_few, others_less set client hi);
-          values_few = w.values_few;
           floor_few = few;
         }
 
-    pub searchable_next : {rest : ℕ} → Others set rest → (g : ℕ) → g ≡ bit_and (used + o.hours) guards → g ≡ 0
+    pub searchable_next : {rest : ℕ} → Others set rest → {g : Bool} → g ≡ eqb (bit_and (used + o.hours) guards) 0 → g ≡ true
         → {base : ℕ} → base ≤ found_most → 2 ≤ ahead → Searchable (ahead - 1) rest (used + o.hours) base rows values
-    searchable_next others g e z {base} few more =
+    searchable_next others e y {base} few more =
         subst (λ (x : ℕ). Searchable (ahead - 1) x (used + o.hours) base rows values) (sym (others.is client hi))
-        (searchable_rest g e z base few more)
+        (searchable_rest e y base few more)

@@ -2,11 +2,11 @@
 use mathlib.Core.Path.{◌≡◌, refl, sym, ◌∙◌}
 use mathlib.Core.List.{List, [], ◌∷◌, ◌++◌, map}
 use Prim.Native.Nat.{ℕ, zero, suc, ◌≤◌, ◌<◌}
-use native.Mathlib.Nat.{le_of_suc-le-suc}
 use native.Mathlib.Decide.{dec_lt}
 use native.Mathlib.Omega.{arith}
 use lib.ListN.{length, get_or, replicate, length-append, length-map, get_or-eq_default}
 use lib.Seq.{ext_get_or, get_or-take, length-take-le}
+use Rattle.std.proofs.lemmas.List.{get_or-map}
 use Rattle.sets.proofs.Filled.{Filled, zeros_at}
 use Rattle.winners.specs.Weighed.{six}
 
@@ -24,12 +24,6 @@ pub six_length : (xs : List ℕ) → length (six xs) ≡ 6
 unfolding six
 six_length xs = length-take-le 6 (xs ++ replicate 6 0) (omega (arith, length-append xs (replicate 6 0)))
 
--- an entry of a mapped list
-pub map_at : (g : ℕ → ℕ) (xs : List ℕ) (L : ℕ) → L < length xs → get_or (map g xs) L 0 ≡ g (get_or xs L 0)
-map_at g [] L l = absurd (omega arith)
-map_at g (x ∷ xs) zero l = refl
-map_at g (x ∷ xs) (suc L) l = map_at g xs L (le_of_suc-le-suc l)
-
 -- six entries filled with g of a list's first are those of the list
 pub six_done : (g : ℕ → ℕ) (is : List ℕ) (xs : List ℕ) → length is ≤ 6 → Filled 6 (λ j. g (get_or is j 0)) (length is) xs
     → xs ≡ six (map g is)
@@ -39,6 +33,6 @@ six_done g is xs few f =
   where
     entry : (L : ℕ) → L < 6 → get_or xs L 0 ≡ get_or (map g is) L 0
     entry L l = elim (dec_lt L (length is)) [
-      | yes m ↦ f.below L m ∙ sym (map_at g is L m)
+      | yes m ↦ f.below L m ∙ sym (get_or-map g is L 0 0 m)
       | no m ↦ f.above L (omega arith) ∙ sym (get_or-eq_default (map g is) 0 {n = L} (omega (arith, length-map is g)))
     ]

@@ -3,15 +3,14 @@
 use mathlib.Core.Path.{◌≡◌, refl, sym, ap, ◌∙◌}
 use mathlib.Core.Bool.{true, false, cond, true≢false}
 use mathlib.Core.List.{List, [], ◌∷◌}
-use mathlib.Core.Logic.{⊎_elim}
-use Prim.Native.Nat.{ℕ, ◌+◌, ◌-◌, ◌^◌, ◌≤◌, ◌<◌}
+use mathlib.Core.Logic.{◌≢◌, ⊎_elim}
+use Prim.Native.Nat.{ℕ, ◌+◌, ◌-◌, ◌^◌, ◌≤◌}
 use native.Mathlib.Nat.{add-zero}
 use native.Mathlib.Decide.{ℕ_discrete}
 use native.Mathlib.Omega.{arith}
 use lib.Bits.{bit_and}
 use lib.Dec.{eqb}
-use lib.ListN.{length, get_or, set, replicate, get_or-replicate}
-use lib.Seq.{ext_get_or, get_or-set_same, get_or-set_other}
+use lib.Seq.{ext_get_or}
 use Rattle.market.specs.Market.{fits, less}
 use Rattle.market.specs.Members.{more, leasts}
 use Rattle.market.proofs.Bools.{either}
@@ -91,33 +90,33 @@ room_few k supply hs x r t = omega (arith, (r.left (sym r.clear ∙ t)).lanes, u
 
 -- SET AFTER SET
 module _ (k : ℕ) (supply : List ℕ) (least : ℕ → List ℕ) (held : ℕ) where
-  pub taken_first : (used : ℕ) → Left k supply used → TakenTo k supply least held 1 (replicate 64 used)
+  pub taken_first : (number : ℕ → ℕ) (used : ℕ) → number 0 ≡ used → Left k supply used → TakenTo k supply least held 1 number
   unfolding leasts
-  taken_first used h s b w =
-      let z : s ≡ 0 = omega arith in
-      rw (z, get_or-replicate {A = ℕ} 64 0 used 0 (omega arith), clients_none) (room_none k supply used h)
+  taken_first number used e h s b w = let z : s ≡ 0 = omega arith in rw (z, e, clients_none) (room_none k supply used h)
 
   -- one set more, of the hours of its first client, which a number holds, and of the others'
-  module _ {s c r : ℕ} (xs : List ℕ) (f : First s c) (o : Others s r) (w : Within s held) (t : TakenTo k supply least held s xs) where
-    others_room : Room k supply (leasts least (clients_in (s - 2 ^ (c - 1)))) (get_or xs r 0)
-    others_room = rw (o.is c f) (t (s - 2 ^ (c - 1)) (others_less s c f) (λ j h. w j (fewer_within s (c - 1) f.there j h)))
+  module _ {s c r : ℕ} (number : ℕ → ℕ) (f : First s c) (o : Others s r) (w : Within s held) (t : TakenTo k supply least held s number)
+    where
+      others_room : Room k supply (leasts least (clients_in (s - 2 ^ (c - 1)))) (number r)
+      others_room = rw (o.is c f) (t (s - 2 ^ (c - 1)) (others_less s c f) (λ j h. w j (fewer_within s (c - 1) f.there j h)))
 
-    pub others_few : eqb (bit_and (get_or xs r 0) guards) 0 ≡ true → get_or xs r 0 ≤ lanes_full
-    others_few y = room_few k supply _ _ others_room y
+      pub others_few : eqb (bit_and (number r) guards) 0 ≡ true → number r ≤ lanes_full
+      others_few y = room_few k supply _ _ others_room y
 
-    module _ {number after : ℕ} (a : Asked k (least c) number)
-        (e : after ≡ cond (eqb (bit_and (get_or xs r 0) guards) 0) (get_or xs r 0 + number) (get_or xs r 0)) where
-      pub set_room : Room k supply (leasts least (clients_in s)) after
-      unfolding leasts
-      set_room = rw (clients_first s c f) (room_next k supply (least c) _ _ _ after a e others_room)
+      module _ {asked after : ℕ} (a : Asked k (least c) asked)
+          (e : after ≡ cond (eqb (bit_and (number r) guards) 0) (number r + asked) (number r)) where
+        pub set_room : Room k supply (leasts least (clients_in s)) after
+        unfolding leasts
+        set_room = rw (clients_first s c f) (room_next k supply (least c) _ _ _ after a e others_room)
 
-      pub taken_next : s < length xs → TakenTo k supply least held (s + 1) (set xs s after)
-      taken_next l j b v = elim (ℕ_discrete j s) [
-        | yes q ↦ rw (q, get_or-set_same xs s after 0 l) set_room
-        | no q ↦ rw (get_or-set_other xs s j after 0 q) (t j (omega arith) v)
-      ]
+        pub taken_next : (later : ℕ → ℕ) → later s ≡ after → ((j : ℕ) → j ≢ s → later j ≡ number j)
+            → TakenTo k supply least held (s + 1) later
+        taken_next later here same j b v = elim (ℕ_discrete j s) [
+          | yes q ↦ rw (q, here) set_room
+          | no q ↦ rw (same j q) (t j (omega arith) v)
+        ]
 
   -- a set of which some client has no bid is passed over
-  pub taken_passed : (s : ℕ) (xs : List ℕ) → (Within s held → ⊥) → TakenTo k supply least held s xs
-      → TakenTo k supply least held (s + 1) xs
-  taken_passed s xs n t j b v = elim (ℕ_discrete j s) [ yes q ↦ absurd (n (rw q at v)) | no q ↦ t j (omega arith) v ]
+  pub taken_passed : (s : ℕ) (number : ℕ → ℕ) → (Within s held → ⊥) → TakenTo k supply least held s number
+      → TakenTo k supply least held (s + 1) number
+  taken_passed s number n t j b v = elim (ℕ_discrete j s) [ yes q ↦ absurd (n (rw q at v)) | no q ↦ t j (omega arith) v ]

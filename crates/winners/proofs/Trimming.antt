@@ -25,7 +25,11 @@ packed_zeros (suc k) = omega (arith, packed_zeros k)
 
 -- no hours of k kinds
 none_asked : (k : ℕ) → Asked k (replicate k 0) 0
-none_asked k = record { kinds = length-replicate k 0; bytes = λ i. omega (arith, zeros_at k i); packs = sym (packed_zeros k) }
+none_asked k = record {
+  kinds = length-replicate k 0;
+  bytes = λ i. omega (arith, zeros_at {A = ℕ} {z = 0} k i);
+  packs = sym (packed_zeros k);
+}
 
 -- hours in lanes are below their guards
 pub asked_few : (k : ℕ) (hs : List ℕ) (a : ℕ) → k ≤ 4 → Asked k hs a → a ≤ 71777214294589695
@@ -55,11 +59,6 @@ module _ (os : List Offer) where
             | no q ↦ fits_trans smaller hs (asked e) (smaller_first hs (asked d)) (fit e (omega arith) v)
           ],
         );
-  }
-
-  pub least_done : (d least : ℕ) → length os ≤ d → LeastTo d os least → LeastIn os least
-  least_done d least l f = record {
-    found = λ k asked few each. let (hs, a, fit) = f.found k asked few each in (hs, a, λ e u v. fit e (omega arith) v);
   }
 
 -- THE ROW SETTLED

@@ -38,7 +38,6 @@ pub record Searchable (ahead set used floor : ℕ) (rows : List Row) (values : L
   pub clients_left : ahead ≡ length (clients_in set)
   pub some_left : 1 ≤ ahead
   pub set_few : set < 64
-  pub values_few : (r : ℕ) → get_or values r 0 ≤ found_most
   pub floor_few : floor ≤ found_most
 
 -- the larger of the floor and of the greatest value of the set's clients where nobody passes

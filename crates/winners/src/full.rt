@@ -1,8 +1,8 @@
 // The greatest value of a set of clients where nobody passes, by a search on the clients left, which are fewer by one at each call. It ends
 // a client's row, whose weights fall, at the first bid that cannot beat what is found: the known value of the clients after it is the most
 // that they can add. The hours of a bid and the hours used are numbers in lanes.
-ghost use Rattle.std.specs.Prelude.{◌≡◌, ◌≤◌, length};
-ghost use Rattle.winners.specs.Full.{Searchable, Searched};
+ghost use Rattle.std.specs.Prelude.{◌≡◌, ℕ, ◌≤◌, length, get_or};
+ghost use Rattle.winners.specs.Full.{found_most, Searchable, Searched};
 ghost use Rattle.winners.specs.Rows.{offer_at, row_of};
 ghost use Rattle.winners.specs.declared.places.TheConstants.{ROWS, SETS};
 
@@ -17,6 +17,7 @@ pub(crate) struct Search<'a> {
     pub(crate) values: &'a [u64; SETS],
     ghost rows_long: { length rows.now ≡ ROWS },
     ghost values_long: { length values.now ≡ SETS },
+    ghost values_few: { (set : ℕ) → get_or values.now set 0 ≤ found_most },
 }
 
 impl<'a> Search<'a> {
@@ -45,7 +46,7 @@ impl<'a> Search<'a> {
         let client = client_sets::first(set);
         for offer in self.row(client) {
             let taken = used + offer.hours;
-            if lanes::guards_set(taken) == 0 {
+            if lanes::fit(taken) {
                 return floor.max(offer.weight);
             }
         }
@@ -69,7 +70,7 @@ impl<'a> Search<'a> {
             }
             let offer = offers[d];
             let after = used + offer.hours;
-            if lanes::guards_set(after) == 0 {
+            if lanes::fit(after) {
                 if offer.weight + most <= top {
                     return top;
                 }
@@ -100,7 +101,7 @@ impl<'a> Search<'a> {
                 return top;
             }
             let after = used + offer.hours;
-            if lanes::guards_set(after) == 0 {
+            if lanes::fit(after) {
                 let base = top.saturating_sub(weight);
                 let more = if ahead == 3 {
                     self.last_pair(rest, after, base)

@@ -1,29 +1,15 @@
 // The clients whose bids may be taken: those that stand and are not discarded, as a set.
-ghost use Rattle.std.specs.Prelude.{◌≡◌, ◌&&◌, not, ◌+◌, ◌-◌, ◌≤◌, eqb, get_or};
+ghost use Rattle.std.specs.Prelude.{◌≡◌, ◌&&◌, not, ◌+◌};
 ghost use Rattle.sets.specs.Sets.{has, set_of};
-ghost use Rattle.book.specs.Lists.{within};
+ghost use Rattle.book.specs.Book.{standing};
+ghost use Rattle.book.specs.Value.{book_of};
 
-use crate::places::CLIENTS;
+use crate::client_sets;
+use book::Book;
 
-// Whether one of n clients stands, by the caps.
-#[tactic(auto, unfolding(book::specs::Lists::within))]
-fn stands(n: usize, caps: [u16; 6], client: usize) -> bool
-    requires { n ≤ 6 }
-    ensures { result ≡ (within 1 client n && not (eqb (get_or caps (client - 1) 0) 0)) }
+// Of a book's clients. Bit 0 of the discard byte is client 1.
+pub(crate) fn kept_in(book: &Book, discard: u8) -> usize
+    ensures { result ≡ set_of 6 (λ j. standing (book_of book.now) (1 + j) && not (has discard j)) }
 {
-    1 <= client && client <= n && caps[client - 1] != 0
-}
-
-// Of n clients with these caps. Bit 0 of the discard byte is client 1.
-pub(crate) fn kept_in(n: usize, caps: [u16; 6], discard: u8) -> u8
-    requires { n ≤ 6 }
-    ensures { result ≡ set_of 6 (λ j. (within 1 (1 + j) n && not (eqb (get_or caps j 0) 0)) && not (has discard j)) }
-{
-    let mut kept = 0;
-    for j in (0..CLIENTS).rev() {
-        let out = (discard >> j) & 1 == 1;
-        let stays = stands(n, caps, j + 1) & !out;
-        kept = u8::from(stays) + 2 * kept;
-    }
-    kept
+    client_sets::of_those(|j| book.is_standing(j + 1) & !numbers::has(usize::from(discard), j))
 }

@@ -1,7 +1,7 @@
 // The hours of up to four kinds in one number: a lane of 16 bits for each kind, the first kind lowest. Instead of the hours left there are
 // those used, which in each lane are 255 less those left. So the hours asked are taken by one addition, and they fit if and only if no lane
 // goes over 255: then bit 8 of each lane, its guard (256), is clear.
-ghost use Rattle.std.specs.Prelude.{◌≡◌, ◌≤◌, min, take};
+ghost use Rattle.std.specs.Prelude.{◌≡◌, ◌≤◌, eqb, min, length, take};
 ghost use Rattle.std.specs.Int.Bits.{bit_and};
 ghost use Rattle.winners.specs.Lanes.{packed, used, Bytes, ones, guards, lanes_full, over_lanes, SmallerLanes};
 
@@ -25,7 +25,7 @@ fn lanes_to(k: usize) -> u64
 
 // The hours asked of the first k kinds: all four are put into their lanes, and those past the first k are cut off.
 pub(crate) fn packed(k: usize, asked: [u8; 4]) -> u64
-    ensures { (result ≡ packed (take k asked)) × (result ≤ lanes_full) × Bytes (take k asked) }
+    ensures { (result ≡ packed (take k asked)) × (result ≤ lanes_full) × Bytes (take k asked) × (length asked ≡ 4) }
 {
     let [a, b, c, d] = asked;
     (u64::from(a) + u64::from(b) * SECOND + u64::from(c) * THIRD + u64::from(d) * FOURTH)
@@ -39,15 +39,16 @@ pub(crate) fn used(left: [u8; 4]) -> u64
     FULL - packed(4, left)
 }
 
-// The guards that are set: 0 where every guard is clear.
-pub(crate) fn guards_set(after: u64) -> u64
-    ensures { (result ≡ bit_and after guards) × (result ≤ guards) }
+// Whether the hours used fit the supply: every guard is clear.
+pub(crate) fn fit(after: u64) -> bool
+    ensures { result ≡ eqb (bit_and after guards) 0 }
 {
-    after & GUARDS
+    after & GUARDS == 0
 }
 
 // What each lane of one number exceeds the same lane of the other by, and 0 where it does not: the guards keep the lanes apart, and tell
 // which of them it is.
+#[tactic(auto, unfolding(crate::specs::Lanes::over_lanes))]
 fn over(a: u64, b: u64) -> u64
     requires { (a ≤ lanes_full) × (b ≤ lanes_full) }
     ensures { result ≡ over_lanes a b }

@@ -12,7 +12,8 @@ ghost use Rattle.winners.specs.Rows.{row_of, searched};
 use crate::full::Search;
 use crate::places::{ROWS, SETS};
 use crate::row::Row;
-use crate::{client_sets, lanes, rows, taken, trims};
+use crate::taken::Taken;
+use crate::{client_sets, lanes, rows, trims};
 use book::SoundBook;
 
 // A set's floor: one client after another is left out.
@@ -34,27 +35,27 @@ fn floor_of(set: usize, values: &[u64; SETS]) -> u64
 fn held_in(rows: &[Row; ROWS]) -> usize
     ensures { result ≡ set_of 6 (λ j. ltb 0 (length (row_of rows.now (1 + j)))) }
 {
-    let mut held = 0;
-    for c in (1..ROWS).rev() {
-        held = usize::from(!rows[c].offers().is_empty()) + 2 * held;
-    }
-    held
+    client_sets::of_those(
+        |j|
+            requires { j < 6 }
+        { !rows[j + 1].offers().is_empty() },
+    )
 }
 
-// The value of a set. Its clients' least hours take `used`, and their heads `heads`.
-fn value_of(set: usize, used: u64, heads: u64, search: Search) -> u64
-    requires { Weighable set used heads search.rows.now search.values.now }
-    ensures { SetWeighed set used heads search.entry.rows.now search.entry.values.now result }
+// The value of a set, by what its clients take.
+fn value_of(set: usize, taken: Taken, search: Search) -> u64
+    requires { Weighable set taken.least taken.heads search.rows.now search.values.now }
+    ensures { SetWeighed set taken.least taken.heads search.entry.rows.now search.entry.values.now result }
 {
-    if lanes::guards_set(heads) == 0 {
+    if lanes::fit(taken.heads) {
         let first = client_sets::first(set);
         return search.head(first).weight + search.values[client_sets::others(set)];
     }
     let floor = floor_of(set, search.values);
-    if 0 < lanes::guards_set(used) {
+    if !lanes::fit(taken.least) {
         return floor;
     }
-    search.full(client_sets::count(set), set, used, floor)
+    search.full(client_sets::count(set), set, taken.least, floor)
 }
 
 // The values of all sets. Clients without a bid are left out, and for the others the least hours and the hours of heads are added up from
@@ -64,8 +65,10 @@ fn weigh_sets(held: usize, used: u64, rows: &[Row; ROWS], leasts: &[u64; ROWS]) 
     ensures { SetsWeighed held used rows.now leasts.now result }
 {
     let mut values = [0u64; SETS];
-    let mut taken = [used; SETS];
-    let mut heads = [used; SETS];
+    let mut taken = [Taken {
+        least: used,
+        heads: used,
+    }; SETS];
     for set in 1..SETS {
         let some = set & held;
         if some < set {
@@ -78,11 +81,9 @@ fn weigh_sets(held: usize, used: u64, rows: &[Row; ROWS], leasts: &[u64; ROWS]) 
                 values: &values,
             };
             let least = leasts[first];
-            let after = taken::with_hours(taken[rest], least);
-            taken[set] = after;
-            let head = taken::with_hours(heads[rest], least + search.head(first).hours);
-            heads[set] = head;
-            values[set] = value_of(set, after, head, search);
+            let now = taken[rest].with_client(least, least + search.head(first).hours);
+            taken[set] = now;
+            values[set] = value_of(set, now, search);
         }
     }
     values

@@ -26,20 +26,13 @@ impl From<Result<Surpluses, Question>> for SigmaTable {
         × (table.sigma ≡ (result_unwrap_or answer no_surpluses).sigma) };
 
     fn from(answer: Result<Surpluses, Question>) -> SigmaTable {
-        match answer {
-            Ok(found) => {
-                let sigma = found.sigma;
-                SigmaTable {
-                    number: 0,
-                    value: found.value,
-                    sigma,
-                }
-            }
-            Err(question) => SigmaTable {
-                number: question.into(),
-                value: 0,
-                sigma: [0; 64],
-            },
+        let number = questions::number_in(&answer);
+        let found = answer.unwrap_or_default();
+        let sigma = found.sigma;
+        SigmaTable {
+            number,
+            value: found.value,
+            sigma,
         }
     }
 }
@@ -61,6 +54,7 @@ fn of_sound(sound: SoundBook, clients: &[u8]) -> Result<Surpluses, Question>
 }
 
 // Of a book that is a value.
+#[tactic(auto, using(crate::proofs::SigmaAnswers::surpluses_refused))]
 pub fn surpluses_of(book: &Book, clients: &[u8]) -> Result<Surpluses, Question>
     ensures { let found = result_unwrap_or result no_surpluses in
         SurplusesAre (sound_number book.now) (book_of book.now) clients.now (number_in result) found.value found.sigma }

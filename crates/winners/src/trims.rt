@@ -9,6 +9,7 @@ use crate::places::ROWS;
 use crate::row::Row;
 
 // One row. The least hours are handed back.
+#[tactic(auto, using(crate::proofs::Trimming::settled_there))]
 fn settle(row: &mut Row) -> u64
     ensures { Settled (offers_of row.old) (offers_of row.new) result }
 {

@@ -24,12 +24,9 @@ impl From<Result<u32, Question>> for Worth {
     ghost from_gives = { λ answer worth. (worth.number ≡ number_in answer) × (worth.value ≡ result_unwrap_or answer 0) };
 
     fn from(answer: Result<u32, Question>) -> Worth {
-        match answer {
-            Ok(value) => Worth { number: 0, value },
-            Err(question) => Worth {
-                number: question.into(),
-                value: 0,
-            },
+        Worth {
+            number: questions::number_in(&answer),
+            value: answer.unwrap_or_default(),
         }
     }
 }
@@ -46,6 +43,7 @@ fn of_sound(sound: SoundBook, discard: u8) -> Result<u32, Question>
 }
 
 // Of a book that is a value.
+#[tactic(auto, using(crate::proofs::WorthAnswers::worth_refused))]
 pub fn greatest_of(book: &Book, discard: u8) -> Result<u32, Question>
     ensures { WorthIs (sound_number book.now) (book_of book.now) discard (number_in result) (result_unwrap_or result 0) }
 {
@@ -53,6 +51,7 @@ pub fn greatest_of(book: &Book, discard: u8) -> Result<u32, Question>
 }
 
 // Of the book that bytes hold, whatever follows it. What was read is sound.
+#[tactic(auto, using(crate::proofs::WorthAnswers::worth_refused))]
 fn greatest_in(book: &[u8], discard: u8) -> Result<u32, Question>
     ensures { WorthIs (book_refusal book.now) (book_in book.now) discard (number_in result) (result_unwrap_or result 0) }
 {

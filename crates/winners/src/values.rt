@@ -12,7 +12,7 @@ use crate::lists;
 use crate::places::{ALL, SETS};
 
 // v, and σ by set number.
-#[derive(Clone, Copy)]
+#[derive(Clone, Copy, Default)]
 pub struct Surpluses {
     pub value: u64,
     pub sigma: [u64; 64],

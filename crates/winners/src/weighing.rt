@@ -9,7 +9,7 @@ use book::{Book, SoundBook};
 use questions::Question;
 
 // v, the winners' clients with 0 past the last, and σ by set number.
-#[derive(Clone, Copy)]
+#[derive(Clone, Copy, Default)]
 pub struct Weighed {
     pub value: u64,
     pub clients: [u8; 6],

@@ -26,7 +26,7 @@ impl<'a> Search<'a> {
         let client = client_sets::first(set);
         for offer in self.row(client) {
             let taken = used + offer.hours;
-            if lanes::guards_set(taken) == 0 {
+            if lanes::fit(taken) {
                 return floor.max(offer.weight);
             }
         }
@@ -46,7 +46,7 @@ impl<'a> Search<'a> {
             }
             let offer = offers[d];
             let after = used + offer.hours;
-            if lanes::guards_set(after) == 0 {
+            if lanes::fit(after) {
                 if offer.weight + most <= top {
                     return top;
                 }
@@ -74,7 +74,7 @@ impl<'a> Search<'a> {
                 return top;
             }
             let after = used + offer.hours;
-            if lanes::guards_set(after) == 0 {
+            if lanes::fit(after) {
                 let base = top.saturating_sub(weight);
                 let more = if ahead == 3 {
                     self.last_pair(rest, after, base)

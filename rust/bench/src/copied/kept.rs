@@ -1,19 +1,17 @@
 //! The clients whose bids may be taken, as a set.
 
-use super::places::CLIENTS;
+use super::{client_sets, numbers};
+use crate::book::Book;
 
-/// Whether one of n clients stands, by the caps.
-fn stands(n: usize, caps: [u16; 6], client: usize) -> bool {
-    1 <= client && client <= n && caps[client - 1] != 0
+/// Whether a client stands, as crates/book has it.
+fn is_standing(book: &Book, client: usize) -> bool {
+    if !((1 <= client) & (client <= book.clients)) {
+        return false;
+    }
+    book.caps[client - 1] != 0
 }
 
-/// The clients that stand and are not discarded, of n with these caps.
-pub fn kept_in(n: usize, caps: [u16; 6], discard: u8) -> u8 {
-    let mut kept = 0;
-    for j in (0..CLIENTS).rev() {
-        let out = (discard >> j) & 1 == 1;
-        let stays = stands(n, caps, j + 1) & !out;
-        kept = u8::from(stays) + 2 * kept;
-    }
-    kept
+/// The clients that stand and are not discarded.
+pub fn kept_in(book: &Book, discard: u8) -> usize {
+    client_sets::of_those(|j| is_standing(book, j + 1) & !numbers::has(usize::from(discard), j))
 }

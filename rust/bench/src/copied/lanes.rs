@@ -25,9 +25,9 @@ pub fn used(left: [u8; 4]) -> u64 {
     FULL - packed(4, left)
 }
 
-/// The guards that are set: 0 where the hours used are within the supply.
-pub fn guards_set(after: u64) -> u64 {
-    after & GUARDS
+/// Whether the hours used fit the supply: every guard is clear.
+pub fn fit(after: u64) -> bool {
+    after & GUARDS == 0
 }
 
 /// What each lane of one number exceeds the same lane of the other by.

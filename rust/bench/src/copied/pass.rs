@@ -3,7 +3,8 @@
 use super::full::Search;
 use super::places::{ROWS, SETS};
 use super::row::Row;
-use super::{client_sets, lanes, rows, taken, trims};
+use super::taken::Taken;
+use super::{client_sets, lanes, rows, trims};
 use crate::book::Book;
 
 /// A set's floor: the largest value without one of its clients.
@@ -20,31 +21,26 @@ fn floor_of(set: usize, values: &[u64; SETS]) -> u64 {
 
 /// The set of the clients that have a bid.
 fn held_in(rows: &[Row; ROWS]) -> usize {
-    let mut held = 0;
-    for c in (1..ROWS).rev() {
-        held = usize::from(!rows[c].offers().is_empty()) + 2 * held;
-    }
-    held
+    client_sets::of_those(|j| !rows[j + 1].offers().is_empty())
 }
 
-/// The value of a set. Its clients' least hours take `used`, and their heads `heads`.
-fn value_of(set: usize, used: u64, heads: u64, search: Search) -> u64 {
-    if lanes::guards_set(heads) == 0 {
+/// The value of a set, by what its clients take.
+fn value_of(set: usize, taken: Taken, search: Search) -> u64 {
+    if lanes::fit(taken.heads) {
         let first = client_sets::first(set);
         return search.head(first).weight + search.values[client_sets::others(set)];
     }
     let floor = floor_of(set, search.values);
-    if 0 < lanes::guards_set(used) {
+    if !lanes::fit(taken.least) {
         return floor;
     }
-    search.full(client_sets::count(set), set, used, floor)
+    search.full(client_sets::count(set), set, taken.least, floor)
 }
 
 /// The values of all sets. Clients without a bid are left out.
 fn weigh_sets(held: usize, used: u64, rows: &[Row; ROWS], leasts: &[u64; ROWS]) -> [u64; SETS] {
     let mut values = [0u64; SETS];
-    let mut taken = [used; SETS];
-    let mut heads = [used; SETS];
+    let mut taken = [Taken { least: used, heads: used }; SETS];
     for set in 1..SETS {
         let some = set & held;
         if some < set {
@@ -54,11 +50,9 @@ fn weigh_sets(held: usize, used: u64, rows: &[Row; ROWS], leasts: &[u64; ROWS]) 
             let rest = client_sets::others(set);
             let search = Search { rows, values: &values };
             let least = leasts[first];
-            let after = taken::with_hours(taken[rest], least);
-            taken[set] = after;
-            let head = taken::with_hours(heads[rest], least + search.head(first).hours);
-            heads[set] = head;
-            values[set] = value_of(set, after, head, search);
+            let now = taken[rest].with_client(least, least + search.head(first).hours);
+            taken[set] = now;
+            values[set] = value_of(set, now, search);
         }
     }
     values

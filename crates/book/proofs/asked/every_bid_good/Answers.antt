@@ -1,8 +1,8 @@
 -- `asked::every_bid_good` meets its contract. Assumes nothing.
 use borrow.Author.Count.{below_more}
-use mathlib.Core.Path.{◌≡◌, sym, ap, ◌∙◌}
-use mathlib.Core.List.{List}
-use Prim.Native.Nat.{ℕ, ◌*◌, ◌≤◌, min}
+use mathlib.Core.Path.{◌≡◌, sym, ◌∙◌}
+use mathlib.Core.List.{[]}
+use Prim.Native.Nat.{min}
 use native.Mathlib.Omega.{arith}
 use lib.Dec.{leb}
 use lib.ListN.{get_or}
@@ -12,22 +12,19 @@ use Rattle.book.specs.Questions.{bid_good}
 use Rattle.book.specs.Value.{bid_held, book_of}
 use Rattle.book.proofs.Held.{held_clients}
 use Rattle.book.proofs.Lists.{row_passed, row_not}
-use Rattle.book.proofs.AskedHours.{four_row}
 use Rattle.book.proofs.asked.every_bid_good.Goals as goal
 use Rattle.book.proofs.asked.every_bid_good.Goals.{After-is_bid_good}
 
 -- whether the bid at hand asks for an hour
 asks : (c : After-is_bid_good) → let v = c.args.book.now in
-    c.is_hour_asked-asks.result ≡ leb 1 (total (row (min v.k 4) (4 * c.loop-i.i) (λ p. get_or v.hours p 0)))
+    c.is_hour_asked-asks.result ≡ leb 1 (total (row (min v.k 4) 0 (λ j. get_or (get_or v.hours c.loop-i.i []) j 0)))
 asks c =
-    let v = c.args.book.now in
-    let few : min v.k 4 ≤ 4 = omega arith in
-    c.is_hour_asked-asks.ensures (min v.k 4) few (rw (← c.kinds.ensures) c.least_with_hours-least.ensures)
-    ∙ ap (λ (xs : List ℕ). leb 1 (total xs)) (four_row (λ p. get_or v.hours p 0) (4 * c.loop-i.i) (min v.k 4) few)
+    c.is_hour_asked-asks.ensures (min c.args.book.now.k 4) (omega arith)
+    (rw (← c.kind_count.ensures) c.least_with_hours-least.ensures)
 
 -- the test of the bid at hand is question 4's
 good : (c : After-is_bid_good) → let v = c.args.book.now in
-    c.is_bid_good.result ≡ bid_good c.clients-n.result (bid_held (min v.k 4) v.client v.hours v.amount c.loop-i.i)
+    c.is_bid_good.result ≡ bid_good c.client_count-n.result (bid_held (min v.k 4) v.client v.hours v.amount c.loop-i.i)
 unfolding bid_good bid_held
 good c = c.is_bid_good.ensures ∙ (rw (asks c))
 
@@ -35,7 +32,7 @@ pub returns-then-not-is_bid_good : goal.returns-then-not-is_bid_good
 unfolding book_of
 returns-then-not-is_bid_good c =
     let no = sym (good (goal.at.returns-then-not-is_bid_good c).After-is_bid_good) ∙ c.if-not-is_bid_good.true in
-    rw (held_clients c.args.book.now, ← c.clients-n.ensures) (row_not (bid_good _) no_bid _ c.loop-i.i _ (omega arith) no)
+    rw (held_clients c.args.book.now, ← c.client_count-n.ensures) (row_not (bid_good _) no_bid _ c.loop-i.i _ (omega arith) no)
 
 pub loop-i-preserved : goal.loop-i-preserved
 loop-i-preserved c =
@@ -44,5 +41,5 @@ loop-i-preserved c =
 pub returns : goal.returns
 unfolding book_of
 returns c =
-    rw (held_clients c.args.book.now, ← c.clients-n.ensures)
+    rw (held_clients c.args.book.now, ← c.client_count-n.ensures)
     (row_passed (bid_good _) no_bid _ c.loop-i.i _ (omega arith) c.loop-i.invariant)

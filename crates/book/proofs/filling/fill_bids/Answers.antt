@@ -1,24 +1,25 @@
 -- `filling::fill_bids` meets its contract. Assumes nothing.
-use mathlib.Core.Path.{◌≡◌, refl, ◌∙◌}
+use mathlib.Core.Path.{◌≡◌, refl, ap, ◌∙◌}
 use Prim.Native.Nat.{◌+◌, ◌*◌, ◌<◌, ◌≤◌}
 use native.Mathlib.Omega.{arith}
-use lib.Dec.{lit<}
-use lib.ListN.{length}
+use lib.ListN.{length, get_or}
 use Rattle.sets.proofs.Filled.{filled_none, filled_next}
-use Rattle.book.specs.Layout.{k_of, m_of}
-use Rattle.book.specs.Reading.{arrays_of}
-use Rattle.book.proofs.ByKind.{first_entry}
+use Rattle.book.specs.Book.{Bid, no_bid}
+use Rattle.book.specs.Layout.{k_of, m_of, bid_here, book_in}
+use Rattle.book.specs.Reading.{hours_entry, arrays_of}
+use Rattle.book.proofs.ByKind.{numbers_first}
 use Rattle.book.proofs.Entered.{
+  bytes_of_bid,
   bid_room,
-  client_entry,
+  bid_read,
+  hours_read,
   client_past,
-  hours_entry,
   hours_past,
-  amount_entry,
   amount_past,
+  filled_row,
 }
 use Rattle.book.proofs.Inside.{laid}
-use Rattle.book.proofs.Whole.{filled_whole, filled_four, bids_written, bids_same}
+use Rattle.book.proofs.Whole.{filled_whole, bids_written, bids_same}
 use Rattle.book.proofs.filling.fill_bids.Goals as goal
 use Rattle.book.proofs.filling.fill_bids.Goals.{In-loop-i}
 
@@ -26,7 +27,7 @@ pub loop-i-init : goal.loop-i-init
 loop-i-init c = record {
   others = refl;
   clients = rw c.requires.clients (filled_none 48 _);
-  hours = rw c.requires.hours (filled_none 192 _);
+  hours = rw c.requires.hours (filled_none 48 _);
   amounts = rw c.requires.amounts (filled_none 48 _);
 }
 
@@ -49,42 +50,31 @@ bounds-book-i c = omega (arith, numbered (goal.at.bounds-book-i c).In-loop-i)
 pub bounds-book-i-in-loop-i : goal.bounds-book-i-in-loop-i
 bounds-book-i-in-loop-i c = omega (arith, numbered (goal.at.bounds-book-i-in-loop-i c).In-loop-i)
 
-pub bounds-book-four : goal.bounds-book-four
-bounds-book-four c = omega (arith, numbered (goal.at.bounds-book-four c).In-loop-i)
+pub bounds-book-i-in-loop-i-2 : goal.bounds-book-i-in-loop-i-2
+bounds-book-i-in-loop-i-2 c = omega (arith, numbered (goal.at.bounds-book-i-in-loop-i-2 c).In-loop-i)
 
-pub bounds-book-four-in-loop-i : goal.bounds-book-four-in-loop-i
-bounds-book-four-in-loop-i c = omega (arith, numbered (goal.at.bounds-book-four-in-loop-i c).In-loop-i)
-
-pub bounds-book-four-in-loop-i-2 : goal.bounds-book-four-in-loop-i-2
-bounds-book-four-in-loop-i-2 c = omega (arith, numbered (goal.at.bounds-book-four-in-loop-i-2 c).In-loop-i)
-
-pub bounds-book-four-in-loop-i-3 : goal.bounds-book-four-in-loop-i-3
-bounds-book-four-in-loop-i-3 c = omega (arith, numbered (goal.at.bounds-book-four-in-loop-i-3 c).In-loop-i)
+-- what stands in its bytes
+read : (c : In-loop-i) → let bs = c.args.input.now in let i = c.loop-i.i in
+    bid_here c.from-k.result 0 (bytes_of_bid bs c.from-k.result c.bids_from-from.result (kinds c) c.bids_from-from.ensures.place i)
+    ≡ get_or (book_in c.args.input.now).bids i no_bid
+read c = bid_read c.args.input.now _ _ (kinds c) c.bids_from-from.ensures.place c.loop-i.i (numbered c).0
 
 pub loop-i-preserved : goal.loop-i-preserved
+unfolding bid_here hours_entry
 loop-i-preserved c =
     let at = (goal.at.loop-i-preserved c).In-loop-i in
     let kept = c.loop-i.invariant in
     let i = c.loop-i.i in
-    let more = (numbered at).0 in
-    let first = first_entry _ _ _ (omega arith) c.first_of-hours.ensures in
-    let entry = hours_entry _ _ _ (kinds at) c.bids_from-from.ensures.place i in
+    let inside : i < 48 = omega (arith, numbered at) in
+    let read = read at in
+    let place : c.from-k.result + 1 ≡ 0 + (c.from-k.result + 1) = omega arith in
+    let amount = rw place at c.four_in.ensures in
+    let hours = numbers_first _ _ _ (omega arith) c.first_of.ensures ∙ hours_read _ _ in
     record {
       others = bids_written _ c.args.book.now kept.others _ _ _;
-      clients =
-          filled_next 48 _ i _ _ (omega (arith, numbered at)) (client_entry _ _ _ (kinds at) c.bids_from-from.ensures.place i more)
-          kept.clients;
-      hours =
-          filled_four 192 _ i _ _ _ _ _ (omega (arith, numbered at))
-          (entry 0 _ _ more (lit< tt) (omega arith) (first 0 (lit< tt)))
-          (entry 1 _ _ more (lit< tt) refl (first 1 (lit< tt)))
-          (entry 2 _ _ more (lit< tt) refl (first 2 (lit< tt)))
-          (entry 3 _ _ more (lit< tt) refl (first 3 (lit< tt)))
-          kept.hours;
-      amounts =
-          filled_next 48 _ i _ _ (omega (arith, numbered at))
-          (c.four_in.ensures ∙ amount_entry _ _ _ (kinds at) c.bids_from-from.ensures.place i more)
-          kept.amounts;
+      clients = filled_next 48 _ i _ _ inside (ap (λ (x : Bid). x.client) read) kept.clients;
+      hours = filled_next 48 _ i _ _ inside (hours ∙ ap (λ (x : Bid). hours_entry x.hours) read) kept.hours;
+      amounts = filled_next 48 _ i _ _ inside (amount ∙ ap (λ (x : Bid). x.amount) read) kept.amounts;
     }
 
 pub returns : goal.returns
@@ -94,5 +84,5 @@ returns c =
     let past : m_of c.args.input.now ≤ c.loop-i.i = omega (arith, c.loop-i-test.false) in
     bids_same _ c.args.book.now kept.others _ _ _
     (filled_whole 48 _ _ _ kept.clients (λ j l. client_past _ j (omega arith)))
-    (filled_whole 192 _ _ _ kept.hours (λ p l. hours_past _ p (omega arith)))
+    (filled_row 48 _ _ _ kept.hours (λ j l. hours_past _ j (omega arith)))
     (filled_whole 48 _ _ _ kept.amounts (λ j l. amount_past _ j (omega arith)))

@@ -2,8 +2,10 @@
 use mathlib.Core.Path.{◌≡◌, refl, sym, ap, ap₂, ◌∙◌}
 use mathlib.Core.Bool.{true, ◌&&◌}
 use mathlib.Core.List.{List}
-use Prim.Native.Nat.{ℕ}
+use Prim.Native.Nat.{ℕ, ◌≤◌}
 use native.Mathlib.Omega.{arith}
+use lib.ListN.{length}
+use Rattle.std.proofs.lemmas.List.{length-take-le}
 use Rattle.std.proofs.lemmas.Result.{err_from_is_err_and}
 use Rattle.sets.specs.Tables.{tabulate}
 use Rattle.book.specs.Lists.{all}
@@ -23,7 +25,13 @@ use Rattle.book.proofs.Answering.{
 use Rattle.book.proofs.Inside.{laid}
 use Rattle.book.proofs.Places.{kinds_count, clients_count, bids_count}
 use Rattle.book.proofs.reading.read.Goals as goal
-use Rattle.book.proofs.reading.read.Goals.{Else-not-is_version_good, Else-not-are_counts_good, After-statuses_good, After-fill_bids}
+use Rattle.book.proofs.reading.read.Goals.{
+  Else-not-is_version_good,
+  Else-not-are_counts_good,
+  After-from,
+  After-statuses_good,
+  After-fill_bids,
+}
 
 -- past the first test the version is good, and past the second the counts
 one : (c : Else-not-is_version_good) → version_good c.args.input.now ≡ true
@@ -34,11 +42,11 @@ two c = sym c.are_counts_good.ensures ∙ c.if-not-are_counts_good.false
 
 -- question 3, of the arrays and the bytes
 three : (c : After-statuses_good) → counts_good c.args.input.now ≡ true
-    → (c.kinds_good-kinds.result && c.statuses_good.result) ≡ tables_good (book_in c.args.input.now)
+    → (c.kinds_good-kinds_good.result && c.statuses_good.result) ≡ tables_good (book_in c.args.input.now)
 unfolding tables_good
 three c good =
-    let kinds = kinds_are _ _ _ _ good (c.from.ensures ∙ c.kinds-k.ensures) c.supplies-supply.ensures c.reserves-reserve.ensures in
-    ap₂ ◌&&◌ (c.kinds_good-kinds.ensures ∙ ap (λ (ks : List Kind). all kind_good ks) kinds)
+    let kinds = kinds_are _ _ _ good (c.from.ensures ∙ c.kinds-k.ensures) c.kinds-kinds.ensures in
+    ap₂ ◌&&◌ (c.kinds_good-kinds_good.ensures ∙ ap (λ (ks : List Kind). all kind_good ks) kinds)
     (c.statuses_good.ensures ∙ ap (λ (ss : List ℕ). all status_good ss) c.statuses-statuses.ensures)
 
 pub returns-then-not-is_version_good : goal.returns-then-not-is_version_good
@@ -55,17 +63,26 @@ returns-then-not-are_counts_good c = record {
   accepted = tt;
 }
 
-pub kinds_good-kinds-requires : goal.kinds_good-kinds-requires
-kinds_good-kinds-requires c = omega (arith, (laid _ (two (goal.at.kinds_good-kinds-requires c).Else-not-are_counts_good)).room.kinds)
+-- so the kinds that count are among the four
+room : (c : After-from) → counts_good c.args.input.now ≡ true → c.from.result ≤ length c.kinds-kinds.result
+room c good = omega (arith, c.from.ensures, c.kinds-k.ensures, (laid _ good).room.kinds)
 
-pub returns-then-not-kinds-statuses_good : goal.returns-then-not-kinds-statuses_good
-returns-then-not-kinds-statuses_good c =
-    let at = goal.at.returns-then-not-kinds-statuses_good c in
+pub slice_bounds-kinds-end : goal.slice_bounds-kinds-end
+slice_bounds-kinds-end c = let at = goal.at.slice_bounds-kinds-end c in room at.After-from (two at.Else-not-are_counts_good)
+
+pub slice_bounds-kinds_good-end : goal.slice_bounds-kinds_good-end
+slice_bounds-kinds_good-end c =
+    let at = goal.at.slice_bounds-kinds_good-end c in
+    sym (length-take-le _ _ (room at.After-from (two at.Else-not-are_counts_good)))
+
+pub returns-then-not-kinds_good-statuses_good : goal.returns-then-not-kinds_good-statuses_good
+returns-then-not-kinds_good-statuses_good c =
+    let at = goal.at.returns-then-not-kinds_good-statuses_good c in
     let good = two at.Else-not-are_counts_good in
     record {
       numbered =
           refused_by_three _ (one at.Else-not-is_version_good) good
-          (sym (three at.After-statuses_good good) ∙ c.if-not-kinds-statuses_good.true);
+          (sym (three at.After-statuses_good good) ∙ c.if-not-kinds_good-statuses_good.true);
       accepted = tt;
     }
 
@@ -77,8 +94,7 @@ held c =
     c.fill_bids.ensures
     ∙ same_arrays _ (arrays_of (book_in bs))
     (c.kinds-k.ensures ∙ sym (kinds_count bs))
-    c.supplies-supply.ensures
-    c.reserves-reserve.ensures
+    c.kinds-kinds.ensures
     (c.clients.ensures ∙ sym (clients_count bs))
     (c.caps.ensures ∙ ap (λ (ss : List ℕ). tabulate 6 (cap_of ss)) c.statuses-statuses.ensures)
     (c.bids.ensures ∙ sym (bids_count bs))
@@ -90,7 +106,7 @@ pub returns-in_err-bids : goal.returns-in_err-bids
 returns-in_err-bids c =
     let at = goal.at.returns-in_err-bids c in
     let good = two at.Else-not-are_counts_good in
-    let tables = sym (three at.After-statuses_good good) ∙ c.if-not-kinds-statuses_good.false in
+    let tables = sym (three at.After-statuses_good good) ∙ c.if-not-kinds_good-statuses_good.false in
     let p = err_from_is_err_and c.from_residual.result c.from_residual.ensures.1 in
     rw (p.1, p.2) (record {
       numbered = number_is _ (one at.Else-not-is_version_good) good tables _ _ (held at.After-fill_bids) c.in_err-bids.ensures;
@@ -102,7 +118,7 @@ returns c =
     let at = goal.at.returns c in
     let first = one at.Else-not-is_version_good in
     let good = two at.Else-not-are_counts_good in
-    let tables = sym (three at.After-statuses_good good) ∙ c.if-not-kinds-statuses_good.false in
+    let tables = sym (three at.After-statuses_good good) ∙ c.if-not-kinds_good-statuses_good.false in
     let book = held at.After-fill_bids in
     let number = number_is _ first good tables _ _ book c.in_ok-bids.ensures in
     record { numbered = number; accepted = accepted_is _ first good tables (sym number) _ c.length.ensures book }

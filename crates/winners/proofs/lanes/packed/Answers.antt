@@ -15,4 +15,5 @@ returns c =
       third = (c.from-3.ensures, omega arith);
       fourth = (c.from-4.ensures, omega arith);
     } in
-    packed_entries xs _ _ _ _ four c.args.k _ c.lanes_to.ensures
+    let (packs, few, bytes) = packed_entries xs _ _ _ _ four c.args.k _ c.lanes_to.ensures in
+    (packs, few, bytes, four.long)

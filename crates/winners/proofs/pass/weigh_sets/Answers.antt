@@ -3,20 +3,24 @@
 use mathlib.Core.Path.{◌≡◌, refl, ap}
 use mathlib.Core.Bool.{cond}
 use mathlib.Core.List.{List}
+use mathlib.Core.Logic.{◌≢◌}
 use Prim.Native.Nat.{ℕ, ◌+◌, ◌-◌, ◌<◌, ◌≤◌}
 use native.Mathlib.Nat.{le_antisymm}
 use native.Mathlib.Omega.{arith}
 use lib.Bits.{bit_and, and_le_l}
 use lib.Dec.{eqb}
-use lib.ListN.{get_or, length-replicate, length-set}
+use lib.ListN.{length, get_or, set, length-set}
+use lib.Seq.{get_or-set_same, get_or-set_other}
 use Rattle.winners.specs.ClientSets.{First, Others, Within}
 use Rattle.winners.specs.Lanes.{Asked, guards, lanes_full}
 use Rattle.winners.specs.Passes.{ValuesTo, Weighable, Passable, head_hours}
 use Rattle.winners.specs.Rows.{row_of, hours_at}
 use Rattle.winners.specs.declared.row.Offer.{Offer}
 use Rattle.winners.specs.declared.row.Row.{Row}
-use Rattle.winners.specs.Taken.{TakenTo}
+use Rattle.winners.specs.Taken.{no_taken, taken_at, TakenTo}
+use Rattle.winners.specs.declared.taken.Taken.{Taken}
 use Rattle.winners.proofs.ClientSets.{and_within, within_and}
+use Rattle.winners.proofs.PassSteps.{values_few}
 use Rattle.winners.proofs.SetAfterSet.{values_first, values_next, value_left}
 use Rattle.winners.proofs.Taking.{others_few, set_room, taken_first, taken_next, taken_passed}
 use Rattle.winners.proofs.Trimming.{asked_few}
@@ -27,11 +31,10 @@ pub loop-set-init : goal.loop-set-init
 loop-set-init c =
     let held = c.args.held in
     let used = c.args.used in
-    let long = length-replicate {A = ℕ} 64 used in record {
+    record {
       values_long = refl;
-      taken_long = long;
-      heads_long = long;
-      known = λ p. (values_first _ _ _, taken_first _ _ _ held used p.left, taken_first _ _ _ held used p.left);
+      taken_long = refl;
+      known = λ p. (values_first _ _ _, taken_first _ _ _ held _ used refl p.left, taken_first _ _ _ held _ used refl p.left);
     }
 
 -- a set of clients that all have a bid
@@ -54,30 +57,27 @@ module _ {held used s first rest : ℕ} {rows : List Row} {leasts : List ℕ} (p
   head_few = asked_few _ _ _ p.left.kinds_few head_asked
 
   -- the hours used once the set's least hours are taken, and once its heads are
-  module _ {values : List ℕ} (taken heads : List ℕ) {after head : ℕ} (known : ValuesTo p.sale.m p.sale.wt p.sale.supply s values)
+  module _ {values : List ℕ} (taken heads : ℕ → ℕ) {after head : ℕ} (known : ValuesTo p.sale.m p.sale.wt p.sale.supply s values)
       (least_before : TakenTo p.sale.k p.sale.supply p.sale.least held s taken)
       (heads_before : TakenTo p.sale.k p.sale.supply (head_hours p.sale) held s heads)
-      (a : after ≡ cond (eqb (bit_and (get_or taken rest 0) guards) 0) (get_or taken rest 0 + get_or leasts first 0) (get_or taken rest 0))
+      (a : after ≡ cond (eqb (bit_and (taken rest) guards) 0) (taken rest + get_or leasts first 0) (taken rest))
       (b : head
-      ≡ cond (eqb (bit_and (get_or heads rest 0) guards) 0)
-      (get_or heads rest 0 + (get_or leasts first 0 + hours_at (row_of rows first) 0)) (get_or heads rest 0)) where
-    weighable : 1 ≤ s → s < 64 → Weighable s after head rows values
-    weighable some few = record {
-      sale = p.sale;
-      room = set_room _ _ _ _ taken f o w least_before least_asked a;
-      headed = λ t low high h. p.headed t low high (w (t - 1) h);
-      heads_room = set_room _ _ _ _ heads f o w heads_before head_asked b;
-      known = known;
-      some = some;
-      few = few;
-    }
+      ≡ cond (eqb (bit_and (heads rest) guards) 0) (heads rest + (get_or leasts first 0 + hours_at (row_of rows first) 0)) (heads rest))
+    where
+      weighable : 1 ≤ s → s < 64 → Weighable s after head rows values
+      weighable some few = record {
+        sale = p.sale;
+        room = set_room _ _ _ _ taken f o w least_before least_asked a;
+        headed = λ t low high h. p.headed t low high (w (t - 1) h);
+        heads_room = set_room _ _ _ _ heads f o w heads_before head_asked b;
+        known = known;
+        some = some;
+        few = few;
+      }
 
-pub with_hours-after-requires : goal.with_hours-after-requires
-with_hours-after-requires c =
-    let w = inside _ _ c.if-some-set.false in (
-      others_few _ _ _ _ c.loop-set.taken c.first-first.ensures c.others-rest.ensures w (c.loop-set.invariant.known c.requires).1,
-      least_few c.requires c.first-first.ensures c.others-rest.ensures w,
-    )
+pub invariant_of-search-clause-values_few : goal.invariant_of-search-clause-values_few
+invariant_of-search-clause-values_few c =
+    values_few _ _ _ _ _ c.requires.sale.laid.weights_few (c.loop-set.invariant.known c.requires).0
 
 pub head-requires : goal.head-requires
 head-requires c =
@@ -92,19 +92,31 @@ overflow_add-least c =
       head_few c.requires c.first-first.ensures c.others-rest.ensures (inside _ _ c.if-some-set.false),
     )
 
-pub with_hours-head-requires : goal.with_hours-head-requires
-with_hours-head-requires c =
-    let w = inside _ _ c.if-some-set.false in (
-      others_few _ _ _ _ c.loop-set.heads c.first-first.ensures c.others-rest.ensures w (c.loop-set.invariant.known c.requires).2,
-      rw (ap (λ (o : Offer). o.hours) c.head.ensures) (head_few c.requires c.first-first.ensures c.others-rest.ensures w),
-    )
+pub with_client-now-requires : goal.with_client-now-requires
+with_client-now-requires c =
+    let w = inside _ _ c.if-some-set.false in
+    let f = c.first-first.ensures in
+    let o = c.others-rest.ensures in
+    let (known, rooms, heads) = c.loop-set.invariant.known c.requires in
+    record {
+      least = (others_few _ _ _ _ _ f o w rooms, least_few c.requires f o w);
+      heads = (others_few _ _ _ _ _ f o w heads, rw (ap (λ (o : Offer). o.hours) c.head.ensures) (head_few c.requires f o w));
+    }
 
 pub value_of-requires : goal.value_of-requires
 value_of-requires c =
     let (known, rooms, heads) = c.loop-set.invariant.known c.requires in
-    let after = rw (ap (λ (o : Offer). o.hours) c.head.ensures) at c.with_hours-head.ensures in
-    weighable c.requires c.first-first.ensures c.others-rest.ensures (inside _ _ c.if-some-set.false) c.loop-set.taken c.loop-set.heads
-    known rooms heads c.with_hours-after.ensures after c.loop-set.auto.set c.loop-set-test.true
+    let head = rw (ap (λ (o : Offer). o.hours) c.head.ensures) at c.with_client-now.ensures.heads in
+    weighable c.requires c.first-first.ensures c.others-rest.ensures (inside _ _ c.if-some-set.false) _ _ known rooms heads
+    c.with_client-now.ensures.least head c.loop-set.auto.set c.loop-set-test.true
+
+-- an entry more by set, the others as they were
+module _ (ts : List Taken) (s : ℕ) (t : Taken) (l : s < length ts) where
+  entry_is : taken_at (set ts s t) s ≡ t
+  entry_is = get_or-set_same ts s t no_taken l
+
+  entry_other : (j : ℕ) → j ≢ s → taken_at (set ts s t) j ≡ taken_at ts j
+  entry_other j n = get_or-set_other ts s j t no_taken n
 
 pub loop-set-preserved : goal.loop-set-preserved
 unfolding weighable
@@ -113,34 +125,38 @@ loop-set-preserved c =
     let held = c.args.held in
     let few = c.loop-set-test.true in
     elim c.if-some-set.branch [
-      | then-some-set w ↦ rw (w.values-is, w.taken-is, w.heads-is) (record {
+      | then-some-set w ↦ rw (w.values-is, w.taken-is) (record {
         values_long = simp length-set l.invariant.values_long;
         taken_long = l.invariant.taken_long;
-        heads_long = l.invariant.heads_long;
         known = λ p.
             let (known, rooms, heads) = l.invariant.known p in
             let less = w.if-some-set.true in
             let idle : Within l.set held → ⊥ = λ v. omega (arith, within_and l.set held few v, less) in (
               values_next _ _ _ l.set _ l.values few (value_left _ _ _ held l.set _ l.values p.idle known refl less) known,
-              taken_passed _ _ _ held l.set l.taken idle rooms,
-              taken_passed _ _ _ held l.set l.heads idle heads,
+              taken_passed _ _ _ held l.set _ idle rooms,
+              taken_passed _ _ _ held l.set _ idle heads,
             );
       })
-      | else-some-set w ↦ rw (w.values-is, w.taken-is, w.heads-is) (record {
+      | else-some-set w ↦ rw (w.values-is, w.taken-is) (record {
         values_long = simp length-set l.invariant.values_long;
         taken_long = simp length-set l.invariant.taken_long;
-        heads_long = simp length-set l.invariant.heads_long;
         known = λ p.
             let (known, rooms, heads) = l.invariant.known p in
             let f = w.first-first.ensures in
             let o = w.others-rest.ensures in
             let v = inside _ _ w.if-some-set.false in
-            let a = w.with_hours-after.ensures in
-            let b = rw (ap (λ (o : Offer). o.hours) w.head.ensures) at w.with_hours-head.ensures in (
+            let a = w.with_client-now.ensures.least in
+            let b = rw (ap (λ (o : Offer). o.hours) w.head.ensures) at w.with_client-now.ensures.heads in
+            let room : l.set < length l.taken = omega (arith, l.invariant.taken_long, few) in
+            let now = w.with_client-now.result in
+            let here = entry_is l.taken l.set now room in
+            let same = entry_other l.taken l.set now room in (
               values_next _ _ _ l.set _ l.values few
-                  (w.value_of.ensures (weighable p f o v l.taken l.heads known rooms heads a b l.auto.set few)) known,
-              taken_next _ _ _ _ l.taken f o v rooms (least_asked p f o v) a (omega (arith, l.invariant.taken_long, few)),
-              taken_next _ _ _ _ l.heads f o v heads (head_asked p f o v) b (omega (arith, l.invariant.heads_long, few)),
+                  (w.value_of.ensures (weighable p f o v _ _ known rooms heads a b l.auto.set few)) known,
+              taken_next _ _ _ _ _ f o v rooms (least_asked p f o v) a _ (ap (λ (t : Taken). t.least) here)
+                  (λ j n. ap (λ (t : Taken). t.least) (same j n)),
+              taken_next _ _ _ _ _ f o v heads (head_asked p f o v) b _ (ap (λ (t : Taken). t.heads) here)
+                  (λ j n. ap (λ (t : Taken). t.heads) (same j n)),
             );
       })
     ]

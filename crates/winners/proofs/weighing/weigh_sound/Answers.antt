@@ -6,14 +6,13 @@ use mathlib.Core.Bool.{true}
 use mathlib.Core.List.{List}
 use Prim.Native.Nat.{ℕ, ◌≤◌}
 use lib.ListN.{length, take}
-use Rattle.std.proofs.lemmas.Result.{err_from_is_err_and}
 use Rattle.book.specs.Value.{book_of}
 use Rattle.book.proofs.Held.{held_shaped, sound_held}
 use Rattle.winners.specs.Surpluses.{surplus_table}
 use Rattle.winners.specs.Weighed.{choice_good, owners_of}
 use Rattle.winners.proofs.Owners.{owners_length, owners_take, owners_listed}
 use Rattle.winners.proofs.SetValues.{all_value}
-use Rattle.winners.proofs.WeighedAnswers.{chosen_bids, weighed_refused, weighed_none, weighed_less, weighed_found}
+use Rattle.winners.proofs.WeighedAnswers.{chosen_bids, weighed_none, weighed_less, weighed_found}
 use Rattle.winners.proofs.weighing.weigh_sound.Goals as goal
 use Rattle.winners.proofs.weighing.weigh_sound.Goals.{After-owners_of-clients, Else-not-is_choice}
 

@@ -18,7 +18,7 @@ ranged c = rw (← c.from-k.ensures, ← c.from.ensures, ← c.from-2.ensures) c
 
 kinds : (c : After-kinds_good) → c.kinds_good.result ≡ all kind_good (book_of c.args.self.now).kinds
 unfolding book_of
-kinds c = rw (← c.kinds.ensures) c.kinds_good.ensures
+kinds c = rw (← c.held_kinds.ensures) c.kinds_good.ensures
 
 pub returns-then-not-are_counts_ranged-clause-number : goal.returns-then-not-are_counts_ranged-clause-number
 unfolding sound_number

@@ -1,10 +1,12 @@
 -- `Search::full` meets its contract. The measure is the number of clients left; the loop keeps what the row's places from its own on
 -- reach, in every market that the rows lay out. Assumes nothing.
 use mathlib.Core.Path.{◌≡◌, sym, subst}
+use mathlib.Core.Bool.{Bool, true}
 use mathlib.Core.List.{List}
 use Prim.Native.Nat.{ℕ, ◌+◌, ◌-◌, ◌≤◌, ◌<◌}
 use native.Mathlib.Omega.{arith}
 use lib.Bits.{bit_and}
+use lib.Dec.{eqb}
 use lib.ListN.{length}
 use Rattle.winners.specs.ClientSets.{First, Others}
 use Rattle.winners.specs.Full.{Searchable, Searched}
@@ -20,8 +22,8 @@ use Rattle.winners.proofs.full.Search.+full.Goals.{
   After-offer-item,
   then-ahead-eq3,
   else-ahead-eq3,
-  then-guards_set-eq0,
-  else-guards_set-eq0,
+  then-fit,
+  else-fit,
 }
 
 pub first-client-requires : goal.first-client-requires
@@ -47,7 +49,7 @@ module _ {t : ℕ} (c : After-offer-item t) where
 pub overflow_add-weight : goal.overflow_add-weight
 overflow_add-weight t c =
     let turn = (goal.at.overflow_add-weight t c).After-offer-item in
-    omega (arith, weight_few c.requires c.loop-offer.invariant.0 (inside turn) (here turn), c.requires.values_few c.others-rest.result)
+    omega (arith, weight_few c.requires c.loop-offer.invariant.0 (inside turn) (here turn), c.args.self.values_few c.others-rest.result)
 
 pub returns-then-weight-ceiling : goal.returns-then-weight-ceiling
 returns-then-weight-ceiling t c =
@@ -62,31 +64,32 @@ overflow_add-after t c =
 -- a turn at an offer that fits
 module _ {ahead set used floor client top d : ℕ} {rows : List Row} {values : List ℕ} (w : Searchable ahead set used floor rows values)
     (several : 3 ≤ ahead) {hi : First set client} (f : Found set client used floor rows values hi top d)
-    (inside : d < length (row_of rows client)) {o : Offer} (here : o ≡ offer_at (row_of rows client) d) {rest g base : ℕ}
-    (others : Others set rest) (e : g ≡ bit_and (used + o.hours) guards) (z : g ≡ 0) (lowered : base ≡ top - o.weight) where
+    (inside : d < length (row_of rows client)) {o : Offer} (here : o ≡ offer_at (row_of rows client) d) {rest base : ℕ}
+    (others : Others set rest) {g : Bool} (e : g ≡ eqb (bit_and (used + o.hours) guards) 0) (y : g ≡ true)
+    (lowered : base ≡ top - o.weight) where
   -- the others may be searched
   later : Searchable (ahead - 1) rest (used + o.hours) base rows values
-  later = let few = top_few w f in searchable_next w hi inside here others g e z (omega (arith, lowered, few)) (omega arith)
+  later = let few = top_few w f in searchable_next w hi inside here others e y (omega (arith, lowered, few)) (omega arith)
 
   -- what they add
   taken : {more : ℕ} → Searched rest (used + o.hours) base rows values more
       → Found set client used floor rows values hi (o.weight + more) (d + 1)
-  taken s = found_taken f inside here others g e z lowered s
+  taken s = found_taken f inside here others e y lowered s
 
 pub last_pair-more-requires : goal.last_pair-more-requires
 last_pair-more-requires t c =
     let turn = (goal.at.last_pair-more-requires t c).After-offer-item in
     let two : c.args.ahead - 1 ≡ 2 = omega (arith, c.if-ahead-eq3.true) in
     rw two at
-    (later c.requires (several turn) c.loop-offer.invariant.1 (inside turn) (here turn) c.others-rest.ensures c.guards_set.ensures.0
-    c.if-guards_set-eq0.true c.saturating_sub-base.ensures)
+    (later c.requires (several turn) c.loop-offer.invariant.1 (inside turn) (here turn) c.others-rest.ensures c.fit.ensures
+    c.if-fit.true c.saturating_sub-base.ensures)
 
 pub full-more-requires : goal.full-more-requires
 full-more-requires t c =
     let turn = (goal.at.full-more-requires t c).After-offer-item in (
       omega (arith, c.decreases, several turn),
-      later c.requires (several turn) c.loop-offer.invariant.1 (inside turn) (here turn) c.others-rest.ensures c.guards_set.ensures.0
-          c.if-guards_set-eq0.true c.saturating_sub-base.ensures,
+      later c.requires (several turn) c.loop-offer.invariant.1 (inside turn) (here turn) c.others-rest.ensures c.fit.ensures
+          c.if-fit.true c.saturating_sub-base.ensures,
     )
 
 pub overflow_add-top : goal.overflow_add-top
@@ -99,7 +102,7 @@ overflow_add-top t c =
       | else-ahead-eq3 w ↦ subst Is (sym w.more-is) w.full-more.ensures
     ] in
     let found = taken c.requires (several turn) c.loop-offer.invariant.1 (inside turn) (here turn) c.others-rest.ensures
-    c.guards_set.ensures.0 c.if-guards_set-eq0.true c.saturating_sub-base.ensures add in
+    c.fit.ensures c.if-fit.true c.saturating_sub-base.ensures add in
     omega (arith, top_few c.requires found)
 
 pub loop-offer-preserved : goal.loop-offer-preserved
@@ -107,18 +110,18 @@ loop-offer-preserved t c =
     let turn = (goal.at.loop-offer-preserved t c).After-offer-item in
     let (hi, found) = c.loop-offer.invariant in (
       hi,
-      elim c.if-guards_set-eq0.branch [
-        | then-guards_set-eq0 w ↦
+      elim c.if-fit.branch [
+        | then-fit w ↦
             let Is = Searched c.others-rest.result (c.args.used + c.offer-item.result.hours) w.saturating_sub-base.result
             c.args.self.rows.now c.args.self.values.now in
             let add : Is w.if-ahead-eq3.more = elim w.if-ahead-eq3.branch [
               | then-ahead-eq3 v ↦ subst Is (sym v.more-is) v.last_pair-more.ensures
               | else-ahead-eq3 v ↦ subst Is (sym v.more-is) v.full-more.ensures
             ] in
-            rw w.top-is (taken c.requires (several turn) found (inside turn) (here turn) c.others-rest.ensures c.guards_set.ensures.0
-            w.if-guards_set-eq0.true w.saturating_sub-base.ensures add)
-        | else-guards_set-eq0 w ↦
-            rw w.top-is (found_left found (inside turn) (here turn) _ c.guards_set.ensures.0 w.if-guards_set-eq0.false)
+            rw w.top-is (taken c.requires (several turn) found (inside turn) (here turn) c.others-rest.ensures c.fit.ensures
+            w.if-fit.true w.saturating_sub-base.ensures add)
+        | else-fit w ↦
+            rw w.top-is (found_left found (inside turn) (here turn) c.fit.ensures w.if-fit.false)
       ],
     )
 

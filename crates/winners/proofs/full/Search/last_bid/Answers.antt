@@ -29,17 +29,17 @@ overflow_add-taken c =
     let turn = (goal.at.overflow_add-taken c).After-offer-item in
     omega (arith, hours_few c.requires c.loop-offer.invariant.0 (inside turn) (here turn))
 
-pub returns-then-guards_set-eq0 : goal.returns-then-guards_set-eq0
-returns-then-guards_set-eq0 c =
-    let turn = (goal.at.returns-then-guards_set-eq0 c).After-offer-item in
+pub returns-then-fit : goal.returns-then-fit
+returns-then-fit c =
+    let turn = (goal.at.returns-then-fit c).After-offer-item in
     rw c.max.ensures
-    (last_fits c.loop-offer.invariant.1 (inside turn) (here turn) c.requires.clients_left _ c.guards_set.ensures.0 c.if-guards_set-eq0.true)
+    (last_fits c.loop-offer.invariant.1 (inside turn) (here turn) c.requires.clients_left c.fit.ensures c.if-fit.true)
 
 pub loop-offer-preserved : goal.loop-offer-preserved
 loop-offer-preserved c =
     let turn = (goal.at.loop-offer-preserved c).After-offer-item in
     let (hi, found) = c.loop-offer.invariant in
-    (hi, found_left found (inside turn) (here turn) _ c.guards_set.ensures.0 c.if-guards_set-eq0.false)
+    (hi, found_left found (inside turn) (here turn) c.fit.ensures c.if-fit.false)
 
 pub returns : goal.returns
 returns c = found_end c.loop-offer.invariant.1 (rw c.row-offer-items.ensures at c.loop-offer-test.false)

@@ -1,10 +1,12 @@
 -- `Search::last_pair` meets its contract. The loop keeps what the row's places from its own on reach, in every market that the rows lay
 -- out. Assumes nothing.
 use mathlib.Core.Path.{◌≡◌}
+use mathlib.Core.Bool.{Bool, true}
 use mathlib.Core.List.{List}
 use Prim.Native.Nat.{ℕ, ◌+◌, ◌-◌, ◌<◌}
 use native.Mathlib.Omega.{arith}
 use lib.Bits.{bit_and}
+use lib.Dec.{eqb}
 use lib.ListN.{length}
 use Rattle.winners.specs.ClientSets.{First, Others}
 use Rattle.winners.specs.Full.{Searchable, Searched}
@@ -18,8 +20,8 @@ use Rattle.winners.proofs.Searching.{top_few, weight_few, hours_few, searchable_
 use Rattle.winners.proofs.full.Search.last_pair.Goals as goal
 use Rattle.winners.proofs.full.Search.last_pair.Goals.{
   After-index-offers-d,
-  then-guards_set-eq0+else-offer-most,
-  else-guards_set-eq0,
+  then-fit+else-offer-most,
+  else-fit,
 }
 
 pub first-client-requires : goal.first-client-requires
@@ -50,7 +52,7 @@ overflow_add-after c =
 pub overflow_add-offer : goal.overflow_add-offer
 overflow_add-offer c =
     let turn = (goal.at.overflow_add-offer c).After-index-offers-d in
-    omega (arith, weight_few c.requires c.loop-d.invariant.0 (inside turn) (here turn), c.requires.values_few c.others-rest.result)
+    omega (arith, weight_few c.requires c.loop-d.invariant.0 (inside turn) (here turn), c.args.self.values_few c.others-rest.result)
 
 pub returns-then-offer-most : goal.returns-then-offer-most
 returns-then-offer-most c =
@@ -60,28 +62,28 @@ returns-then-offer-most c =
 -- a turn at an offer that fits and may be taken
 module _ {set used floor client top d : ℕ} {rows : List Row} {values : List ℕ} (w : Searchable 2 set used floor rows values)
     {hi : First set client} (f : Found set client used floor rows values hi top d) (inside : d < length (row_of rows client)) {o : Offer}
-    (here : o ≡ offer_at (row_of rows client) d) {rest g base : ℕ} (others : Others set rest) (e : g ≡ bit_and (used + o.hours) guards)
-    (z : g ≡ 0) (lowered : base ≡ top - o.weight) where
+    (here : o ≡ offer_at (row_of rows client) d) {rest base : ℕ} (others : Others set rest)
+    {g : Bool} (e : g ≡ eqb (bit_and (used + o.hours) guards) 0) (y : g ≡ true) (lowered : base ≡ top - o.weight) where
   -- the other client may be searched
   later : Searchable 1 rest (used + o.hours) base rows values
-  later = let few = top_few w f in searchable_next w hi inside here others g e z (omega (arith, lowered, few)) (omega arith)
+  later = let few = top_few w f in searchable_next w hi inside here others e y (omega (arith, lowered, few)) (omega arith)
 
   -- what it adds
   taken : {more : ℕ} → Searched rest (used + o.hours) base rows values more
       → Found set client used floor rows values hi (o.weight + more) (d + 1)
-  taken s = found_taken f inside here others g e z lowered s
+  taken s = found_taken f inside here others e y lowered s
 
 pub last_bid-requires : goal.last_bid-requires
 last_bid-requires c =
     let turn = (goal.at.last_bid-requires c).After-index-offers-d in
-    later c.requires c.loop-d.invariant.1 (inside turn) (here turn) c.others-rest.ensures c.guards_set.ensures.0 c.if-guards_set-eq0.true
+    later c.requires c.loop-d.invariant.1 (inside turn) (here turn) c.others-rest.ensures c.fit.ensures c.if-fit.true
     c.saturating_sub.ensures
 
 pub overflow_add-top : goal.overflow_add-top
 overflow_add-top c =
     let turn = (goal.at.overflow_add-top c).After-index-offers-d in
-    let found = taken c.requires c.loop-d.invariant.1 (inside turn) (here turn) c.others-rest.ensures c.guards_set.ensures.0
-    c.if-guards_set-eq0.true c.saturating_sub.ensures c.last_bid.ensures in
+    let found = taken c.requires c.loop-d.invariant.1 (inside turn) (here turn) c.others-rest.ensures c.fit.ensures
+    c.if-fit.true c.saturating_sub.ensures c.last_bid.ensures in
     omega (arith, top_few c.requires found)
 
 pub loop-d-preserved : goal.loop-d-preserved
@@ -89,13 +91,13 @@ loop-d-preserved c =
     let turn = (goal.at.loop-d-preserved c).After-index-offers-d in
     let (hi, found) = c.loop-d.invariant in (
       hi,
-      elim c.if-guards_set-eq0.branch [
-        | then-guards_set-eq0+else-offer-most w ↦ rw w.top-is (
-            taken c.requires found (inside turn) (here turn) c.others-rest.ensures c.guards_set.ensures.0 w.if-guards_set-eq0.true
+      elim c.if-fit.branch [
+        | then-fit+else-offer-most w ↦ rw w.top-is (
+            taken c.requires found (inside turn) (here turn) c.others-rest.ensures c.fit.ensures w.if-fit.true
             w.saturating_sub.ensures w.last_bid.ensures
             )
-        | else-guards_set-eq0 w ↦
-            rw w.top-is (found_left found (inside turn) (here turn) _ c.guards_set.ensures.0 w.if-guards_set-eq0.false)
+        | else-fit w ↦
+            rw w.top-is (found_left found (inside turn) (here turn) c.fit.ensures w.if-fit.false)
       ],
     )
 
