@@ -15,10 +15,11 @@ use Rattle.demands.specs.Questions.{form_good}
 use Rattle.demands.proofs.Form.{Form as Formed, form_facts, facts_form}
 use Rattle.judge.specs.declared.sheet.SheetReading.{SheetReading}
 use Rattle.judge.specs.Reading.{SheetRead}
-use Rattle.std.specs.Prelude.{Result}
+use Rattle.std.specs.Prelude.{Result, Err}
 use Rattle.questions.specs.Numbers.{number_of, number_in}
 use Rattle.questions.specs.declared.Question.{Question}
 use Rattle.questions.specs.declared.Question.TheVariants.{Form}
+use Rattle.questions.proofs.Numbers.{refused_by}
 use Rattle.judge.proofs.Outcomes.{bare_book, bare_clients}
 use Rattle.judge.proofs.NumberedTests.{answered_no, answered_yes}
 
@@ -56,6 +57,10 @@ module _ (n : ℕ) (r : Result SheetReading Question) where
   longer_form read =
       let some = longer_refused read in
       (answered_no (form_good any_book longer) 6 (number_in r) (read.numbered any_book (bare_clients (min n 6))) (omega arith)).1
+
+  -- and nothing beside it
+  longer_nothing : SheetRead longer n r → r ≡ Err Form
+  longer_nothing read = refused_by r Form (longer_form read)
 
   version_refused : (more : List ℕ) → SheetRead (2 ∷ more) n r → number_in r ≢ 0
   version_refused more read z = omega (arith, (read_form (2 ∷ more) read z).version)

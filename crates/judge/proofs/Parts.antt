@@ -1,5 +1,5 @@
 -- What the bytes of a sheet give over a book that is a value: a refusal by question 6, or the sheet that arrays hold, and the answer to it.
--- Cited by the proof and the attribute of `judged`. Assumes nothing.
+-- Cited by the attributes of `judged` and `judged_sheet`, and by the proof of the second. Assumes nothing.
 use mathlib.Core.Path.{◌≡◌, sym, ap, ◌∙◌}
 use mathlib.Core.Bool.{true}
 use mathlib.Core.List.{List}

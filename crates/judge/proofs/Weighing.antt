@@ -1,5 +1,5 @@
 -- Questions 7 to 9 of a sheet that arrays hold, by what the test of ranges and the weighing of the winners answer. Cited by the proof
--- and the attribute of src/chain.rt's `judged`. Assumes nothing.
+-- and the attributes of src/chain.rt. Assumes nothing.
 use mathlib.Core.Path.{◌≡◌, refl, ap, ◌∙◌}
 use mathlib.Core.Bool.{true, cond}
 use mathlib.Core.List.{List}
@@ -88,5 +88,5 @@ module _ (v : Arrays) (bids : List ℕ) (f : Figures) where
           ∙ tabulate_at 64 _ L 0 (le_trans l (pow_mono {i = f.w} {j = 6} few))
           ∙ cond_true (ltb L (2 ^ length (owners_of b h.bids))) (σ L) 0 (rw owners (lt-ltb L (2 ^ f.w) l))
 
--- what the attribute of `judged` cites, for all questions but the last
+-- what the attributes of `judged` and `judged_sheet` cite, for all questions but the last
 pub ruleset chain_steps = (form_no, sheet_no, seven_no, weighed_no, sigma_held, range_number_zero, number_range)

@@ -1,6 +1,6 @@
 -- What judging promises of its answer to any call: every field as a value, and demands 1, 2 and 3 (demands/specs/Promise.antt) on the
--- number that is answered. The contract of `judge_sheet`, for the call of an input, and of `judge_over`, for that of a book that is a value
--- and the bytes of a sheet. Assumes nothing: these are definitions.
+-- number that is answered. The contract of `judge_sheet`, for the call of an input, and of `judge_over` and `judge_sound`, for that of a
+-- book that is a value and the bytes of a sheet. Assumes nothing: these are definitions.
 use Rattle.std.specs.Prelude.{◌≡◌, ◌⊎◌, ◌↔◌, ◌≤◌}
 use Rattle.demands.specs.Call.{Call, sheet, call_refusal, Accepted}
 use Rattle.demands.specs.Answer.{Answer, answer_of, Priced, Zeros}

@@ -60,3 +60,9 @@ number_range Clients = (omega arith, omega arith)
 pub ok_at_zero : {A : Type 0} (r : Result A Question) → number_in r ≡ 0 → IsOk r
 ok_at_zero (Ok a) zero = search rules
 ok_at_zero (Err q) zero = search (rules, number_range q)
+
+-- and has a question's number only where that question refuses it, so that nothing else is in it
+pub refused_by : {A : Type 0} (r : Result A Question) (q : Question) → number_in r ≡ number_of q → r ≡ Err q
+unfolding OneNumberEach
+refused_by (Ok a) q e = absurd (omega (arith, e, number_range q))
+refused_by (Err p) q e = ap Err (one_number_each p q e)

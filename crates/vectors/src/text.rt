@@ -1,5 +1,5 @@
 // Bytes: where one stands, those after a place, and those that are written in hexadecimal.
-ghost use Rattle.std.specs.Prelude.{◌≡◌, ◌-◌, ◌≤◌, length};
+ghost use Rattle.std.specs.Prelude.{◌≡◌, ◌-◌, ◌≤◌, ◌<◌, length, IfSome};
 
 // Where a byte first stands, or the end.
 pub(crate) fn find(s: &[u8], byte: u8) -> usize
@@ -16,7 +16,9 @@ pub(crate) fn after(s: &[u8], n: usize) -> &[u8]
 }
 
 // What a hexadecimal digit counts, where the byte is one.
-fn digit(b: u8) -> Option<u8> {
+fn digit(b: u8) -> Option<u8>
+    ensures { IfSome result (λ d. d < 16) }
+{
     match b {
         b'0'..=b'9' => Some(b - b'0'),
         b'A'..=b'F' => Some(b - b'A' + 10),

@@ -6,10 +6,10 @@ use Prim.Native.Nat.{ℕ}
 use native.Mathlib.Omega.{arith}
 use lib.ListN.{replicate}
 use Rattle.std.specs.Prelude.{Result, Ok, Err, IfOk}
-use Rattle.questions.specs.Numbers.{number_of, number_in, OneNumberEach}
+use Rattle.questions.specs.Numbers.{number_in}
 use Rattle.questions.specs.declared.Question.{Question}
 use Rattle.questions.specs.declared.Question.TheVariants.{Combination as CombinationAsked, Value as ValueAsked}
-use Rattle.questions.proofs.Numbers.{one_number_each, number_range}
+use Rattle.questions.proofs.Numbers.{number_range, refused_by}
 use Rattle.sets.specs.Sets.{has}
 use Rattle.sets.specs.Tables.{tabulate}
 use Rattle.market.specs.Market.{fits, less}
@@ -76,11 +76,6 @@ module _ (number value : ℕ) where
 abbrev found : (first second both : ℕ) → Weighed
 found first second both = record { value = 110; clients = two 1 2; sigma = 0 ∷ first ∷ second ∷ both ∷ replicate 60 0 }
 
-refused : (answer : Result Weighed Question) (q : Question) → number_in answer ≡ number_of q → answer ≡ Err q
-unfolding OneNumberEach
-refused (Ok a) q e = absurd (omega (arith, e, number_range q))
-refused (Err p) q e = ap Err (one_number_each p q e)
-
 module _ (b : Book) (bids : List ℕ) (s : Weighed) where
   whole : (answer : Result Weighed Question) → number_in answer ≡ 0
       → ((a : Weighed) → WinnersWeighed b bids a → (a.value ≡ s.value) × (a.clients ≡ s.clients) × (a.sigma ≡ s.sigma))
@@ -101,8 +96,8 @@ module _ (answer : Result Weighed Question) where
   -- client 3 alone, as in call H, and withdrawn
   third_alone : WeighedIs 0 (book 0) (1 ∷ []) answer → answer ≡ Err ValueAsked
   unfolding computed
-  third_alone k = refused answer ValueAsked k.numbered
+  third_alone k = refused_by answer ValueAsked k.numbered
 
   third_withdrawn : WeighedIs 0 (book 1) (1 ∷ []) answer → answer ≡ Err CombinationAsked
   unfolding computed
-  third_withdrawn k = refused answer CombinationAsked k.numbered
+  third_withdrawn k = refused_by answer CombinationAsked k.numbered

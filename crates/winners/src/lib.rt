@@ -3,8 +3,9 @@
 // What a client may cite: `weigh`, whether bids are a combination of greatest value, with v and σ of every set of them; `greatest_of`, the
 // greatest value with clients discarded; `surpluses_of`, v and σ of every set of a list of clients. Each takes any value, puts
 // `Book::sound` to it first, asks nothing of its caller, and its contract gives every field of its answer as a value (specs/). For callers
-// with the bytes of a book there are `greatest_value` and `surpluses`, by `book::read`, which finds a book sound or refuses it. Laws for
-// the layers above: proofs/Books.antt, Greatest.antt, Surplus.antt and Most.antt.
+// with the bytes of a book there are `greatest_value` and `surpluses`, by `book::read`, which finds a book sound or refuses it; and
+// `weigh_sound` is `weigh` of a book that is known to be sound. Laws for the layers above: proofs/Books.antt, Greatest.antt, Surplus.antt
+// and Most.antt.
 #![tactic(auto)]
 
 mod choice;
