@@ -1,11 +1,18 @@
--- Runs of bytes, kinds and bids from a place on: how long each is. Cited by Places, Entered and SoundRead, and by the layers above. Assumes
--- nothing.
+-- Runs of bytes, kinds and bids from a place on: how long each is, and of bytes what comes next. Cited by Places, Entered and SoundRead,
+-- and by the layers above. Assumes nothing.
 use mathlib.Core.Path.{◌≡◌, refl, ap}
-use mathlib.Core.List.{List}
-use Prim.Native.Nat.{ℕ, zero, suc, ◌+◌}
+use mathlib.Core.List.{List, ◌∷◌}
+use Prim.Native.Nat.{ℕ, zero, suc, ◌+◌, ◌-◌, ◌<◌}
+use native.Mathlib.Omega.{arith}
 use lib.ListN.{length}
-use Rattle.book.specs.Bytes.{bytes_at}
+use Rattle.book.specs.Bytes.{byte, bytes_at}
 use Rattle.book.specs.Layout.{kinds_in, bids_in}
+
+-- a run of some bytes is the first of them, and the run after it
+pub bytes_next : (t at : ℕ) (bs : List ℕ) → 0 < t → bytes_at t at bs ≡ byte at bs ∷ bytes_at (t - 1) (at + 1) bs
+unfolding bytes_at
+bytes_next zero at bs some = absurd (omega (arith, some))
+bytes_next (suc t) at bs some = let before : suc t - 1 ≡ t = omega arith in rw before refl
 
 -- a run is as long as its count says
 pub bytes_length : (t at : ℕ) (bs : List ℕ) → length (bytes_at t at bs) ≡ t
